@@ -1,0 +1,3 @@
+pub mod KindTables
+pub mod TableRows
+pub mod Searches
