@@ -108,7 +108,7 @@ origins-proper : (d : List Entry) → All (Proper-node draft) d → proper-origi
 origins-proper [] h = refl
 origins-proper (n ∷ ns) h = and-from _ _ (h .0 .origin) (origins-proper ns (h .1))
 
-length-nodes : (d : List Entry) → length (nodes d) ≡ length d
+pub length-nodes : (d : List Entry) → length (nodes d) ≡ length d
 length-nodes [] = refl
 length-nodes (n ∷ ns) = ap suc (length-nodes ns)
 

@@ -3,7 +3,7 @@ ghost use mathlib.Core.Path.{_≡_};
 ghost use mathlib.Core.Bool.{Bool};
 ghost use mathlib.Core.List.{map};
 ghost use Prim.Native.Nat.{ℕ, _+_};
-ghost use Rattle.model.specs.Kinds.{is, has-name, kind-number};
+ghost use Rattle.model.specs.Kinds.{is, role-named, kind-number};
 ghost use Rattle.model.specs.Fields.{kind-of};
 ghost use Rattle.model.specs.Table.{shown, table, row-of};
 
@@ -333,6 +333,17 @@ pub fn kind_of(word: &[u8]) -> Option<Kind>
         }
     }
     None
+}
+
+// Whether a kind of that role has a name.
+pub fn has_name(role: Role) -> bool
+    ensures { λ r. ⌜ r ≡ role-named role ⌝ }
+{
+    match role {
+        Role::Plain => false,
+        Role::Declares => true,
+        Role::Refers => true,
+    }
 }
 
 // Whether two kinds are the same.

@@ -1,4 +1,7 @@
 // Names, nodes, and where a name came from.
+ghost use mathlib.Core.Path.{_≡_};
+ghost use lib.ListN.{length, replicate};
+ghost use Rattle.model.specs.Names.{blank-entry};
 use crate::kinds::Kind;
 
 // A stem has 1 to 8 characters, with zeros after them; mark 0 is the plain spelling.
@@ -51,4 +54,11 @@ impl Entry {
         },
         origin: Origin::Outer,
     };
+}
+
+// Makes every place of a row unused.
+pub fn clear_row(row: &mut [Entry])
+    ensures { λ _. ⌜ now (row .exit) ≡ replicate (length (now (row .entry))) blank-entry ⌝ }
+{
+    row.fill(Entry::BLANK);
 }

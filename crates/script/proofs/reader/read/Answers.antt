@@ -1,0 +1,11 @@
+use Rattle.script.proofs.Readings.{read-back}
+use Rattle.script.proofs.reader.read.Needs as need
+
+pub returns : need.returns
+returns g c =
+    let e = c .read-form .ensures in
+    record {
+      value = e .value;
+      after = e .after;
+      back = read-back (g .G·Grammar .grammar) (c .args .text .now) (c .args .row .now) (c .read-form .last .row) (c .read-form .result) (e .value) (e .after);
+    }

@@ -1,0 +1,7 @@
+pub mod Buffers
+pub mod Cuts
+pub mod Forms
+pub mod LineReads
+pub mod Runs
+pub mod Reads
+pub mod Trips

@@ -1,0 +1,6 @@
+mod buffers;
+mod fields;
+mod lines;
+mod pending;
+pub mod reader;
+pub mod writer;
