@@ -12,10 +12,12 @@ use Rattle.model.specs.declared.kinds.Kind.{Kind}
 use Rattle.model.specs.declared.kinds.Kind.the-variants.{Card}
 use Rattle.model.specs.declared.nodes.Node.{Node}
 use Rattle.model.specs.declared.nodes.Origin.{Origin}
+use Rattle.model.specs.declared.faults.StageFault.the-variants.{WrongSource, DraftTooLarge}
 use Rattle.model.specs.declared.faults.DraftFault.{DraftFault}
+use Rattle.model.specs.declared.faults.DraftFault.the-variants.{Stage as OfStage}
 use Rattle.model.specs.Kinds.{has-name, declares}
-use Rattle.model.specs.Names.{alike, kind-at, name-at, root-of, nodes}
-use Rattle.model.specs.Fitting.{Of}
+use Rattle.model.specs.Names.{alike, kind-at, name-at, nodes}
+use Rattle.model.specs.Fitting.{Of, Program}
 use Rattle.model.specs.Forest.{Shape, shape, pre}
 use Rattle.model.specs.Scopes.{Order, Language, reach, reaches}
 use Rattle.model.specs.Classes.{Draft, Source, source-of, class-at, together, is-outer}
@@ -38,7 +40,7 @@ pub record Visible (order : Order) : Type 0 where
 pub record Part (l whole : Language) : Type 0 where
   pub roots : (r : Kind) → l .grammar .roots r ≡ true → whole .grammar .roots r ≡ true
   pub below : (r k : Kind) → l .grammar .roots r ≡ true → l .grammar .below r k ≡ whole .grammar .below r k
-  pub visible : (p : List Node) (i : ℕ) → l .grammar .roots (root-of p) ≡ true → l .visible (shape p) i ≡ whole .visible (shape p) i
+  pub visible : (p : List Node) → Of (l .grammar) p → (i : ℕ) → l .visible (shape p) i ≡ whole .visible (shape p) i
 
 -- Transformations
 
@@ -78,11 +80,17 @@ Agreeing s (Err f) (Err g) = f ≡ g
 abbrev pub drafted : Transformation → List Node → Result Draft DraftFault
 drafted t p = meaning t (source-of (t .source .visible) p)
 
+-- 7 exactly when the root is not of the source, then 8 exactly when the draft is too large: what it refuses by itself is neither
+abbrev pub Refuses-exactly : Transformation → Type 0
+Refuses-exactly t =
+    (p : List Node) (f : DraftFault) → Program (t .source .grammar) p → t .draft (source-of (t .source .visible) p) ≡ Err f
+    → (f ≡ OfStage WrongSource → ⊥) × (f ≡ OfStage DraftTooLarge → ⊥)
+
 pub record Keeps-transformation (t : Transformation) : Type 0 where
   -- a draft that is not refused is of the target language
-  pub made : (p : List Node) (d : Draft) → Of (t .source .grammar) p → drafted t p ≡ Ok d → Of (t .target .grammar) (nodes d)
+  pub made : (p : List Node) (d : Draft) → Program (t .source .grammar) p → drafted t p ≡ Ok d → Of (t .target .grammar) (nodes d)
   -- of alike programs it makes agreeing drafts, or refuses both alike
-  pub law : (p q : List Node) → Of (t .source .grammar) p → Of (t .source .grammar) q → Alike (t .source .visible) p q → Agreeing (source-of (t .source .visible) p) (drafted t p) (drafted t q)
+  pub law : (p q : List Node) → Program (t .source .grammar) p → Program (t .source .grammar) q → Alike (t .source .visible) p q → Agreeing (source-of (t .source .visible) p) (drafted t p) (drafted t q)
 
 -- in a session of that language; in a row, one's target is the other's source
 abbrev pub Keeps-stage : Language → Stage → Type 0

@@ -1,5 +1,5 @@
 -- Transformations, and stages: a transformation under a repair, or two stages in a row.
-use mathlib.Core.Bool.{true, false}
+use mathlib.Core.Bool.{Bool, true, false}
 use mathlib.Core.List.{List, [], _∷_}
 use Prim.Native.Nat.{ℕ}
 use lib.Dec.{leb}
@@ -18,19 +18,22 @@ use Rattle.model.specs.Scopes.{Language}
 use Rattle.model.specs.Classes.{Draft, Source}
 use Rattle.model.specs.Repair.{Mended, mend}
 
--- it names its source and its target language, and makes a draft, however large, of a program and its reaches; it may refuse to
+-- it names its source and its target language, and makes a draft, however large, of a program and its reaches.
+-- It may refuse to; that a root is not of its source and that a draft is too large is not its own to say
 pub record Transformation : Type 0 where
   pub source : Language
   pub target : Language
   pub draft : Source → Result Draft DraftFault
 
-abbrev pub within-limit : Draft → Result Draft DraftFault
-within-limit d = elim (leb (length d) 1024) [ true ↦ Ok d | false ↦ Err (OfStage DraftTooLarge) ]
+abbrev pub within-limit : Draft → Bool
+within-limit d = leb (length d) 1024
 
--- refused with 7 exactly when the root is not of the source language; of the drafts that it makes then, just those over 1,024 nodes are refused with 8
+abbrev pub limited : Draft → Result Draft DraftFault
+limited d = elim (within-limit d) [ true ↦ Ok d | false ↦ Err (OfStage DraftTooLarge) ]
+
+-- refused with 7 exactly when the root is not of the source language, then with 8 exactly when the draft exceeds 1,024 nodes
 abbrev pub meaning : Transformation → Source → Result Draft DraftFault
-meaning t s =
-    elim (t .source .grammar .roots (root-of (s .program))) [ true ↦ and-then (t .draft s) within-limit | false ↦ Err (OfStage WrongSource) ]
+meaning t s = elim (t .source .grammar .roots (root-of (s .program))) [ true ↦ and-then (t .draft s) limited | false ↦ Err (OfStage WrongSource) ]
 
 -- a given draft, already read: it takes every program of the language, and its target goes by the draft's root
 abbrev pub foreign : Language → Draft → Transformation
@@ -55,14 +58,14 @@ with-origins [] p = []
 with-origins (e ∷ es) [] = []
 with-origins (e ∷ es) (n ∷ ns) = record { node = n; origin = e .origin } ∷ with-origins es ns
 
+-- a draft that is not too large is mended
+abbrev pub mended-draft : Language → Source → Draft → Result Draft DraftFault
+mended-draft l s d =
+    elim (within-limit d) [ true ↦ and-then (mended-in l s d) (λ r. Ok (with-origins (r .draft) (r .mended .program))) | false ↦ Ok d ]
+
 -- a repaired transformation is again one
 abbrev pub repaired : Transformation → Transformation
-repaired t =
-    record {
-      source = t .source;
-      target = t .target;
-      draft = λ s. and-then (repairing t s) (λ r. Ok (with-origins (r .draft) (r .mended .program)));
-    }
+repaired t = record { source = t .source; target = t .target; draft = λ s. and-then (t .draft s) (mended-draft (t .target) s) }
 
 -- no repair stands over a row
 pub data Stage : Type 0 where
