@@ -45,9 +45,9 @@ plainly s = record { stem = padded (codes s); mark = 0 }
 abbrev pub no-name : Name
 no-name = plainly ""
 
--- what stands for a node where there is none: it has no name
+-- what stands for a node where there is none: it has no name, not even an empty one
 abbrev pub blank : Node
-blank = record { kind = Card; name = no-name; number = 0 }
+blank = record { kind = Card; name = record { stem = []; mark = 0 }; number = 0 }
 
 abbrev pub node-at : List Node → ℕ → Node
 node-at p i = getD p i blank
@@ -65,9 +65,12 @@ root-of p = kind-at p 0
 abbrev pub respelled : Node → Name → Node
 respelled n a = record { kind = n .kind; name = a; number = n .number }
 
--- what an unused place of a row holds
 abbrev pub blank-entry : Entry
 blank-entry = record { node = blank; origin = Outer }
+
+-- what an unused place of a row holds
+abbrev pub unused-entry : Entry
+unused-entry = record { node = record { kind = Card; name = no-name; number = 0 }; origin = Outer }
 
 abbrev pub entry-at : List Entry → ℕ → Entry
 entry-at d i = getD d i blank-entry

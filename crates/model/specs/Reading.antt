@@ -19,7 +19,7 @@ use Rattle.model.specs.declared.faults.TextFault.{TextFault}
 use Rattle.model.specs.declared.faults.TextFault.the-variants.{TooShort, Read}
 use Rattle.model.specs.Lists.{if-some, and-then, raised}
 use Rattle.model.specs.Kinds.{Grammar, allowed, child-sorts}
-use Rattle.model.specs.Names.{nodes, blank-entry}
+use Rattle.model.specs.Names.{nodes, unused-entry}
 use Rattle.model.specs.Fields.{pieces, Form, plain, draft, wanted, read-fields, kind-of, bare}
 
 -- a line, and whether a byte 10 ended it
@@ -93,7 +93,7 @@ read-into g form text room = elim (leb 1024 room) [ true ↦ raised Read (read g
 abbrev pub counted : Result (List Entry) TextFault → Result ℕ TextFault
 counted r = and-then r (λ es. Ok (length es))
 
--- the row then: the entries, and beyond them what it held; blank after a refusal
+-- the row then: the entries, and beyond them what it held; all unused after a refusal
 abbrev pub row-after : Result (List Entry) TextFault → List Entry → List Entry
 row-after (Ok es) old = es ++ drop (length es) old
-row-after (Err f) old = replicate (length old) blank-entry
+row-after (Err f) old = replicate (length old) unused-entry

@@ -1,7 +1,7 @@
 // Names, nodes, and where a name came from.
 ghost use mathlib.Core.Path.{_≡_};
 ghost use lib.ListN.{length, replicate};
-ghost use Rattle.model.specs.Names.{blank-entry};
+ghost use Rattle.model.specs.Names.{unused-entry};
 use crate::kinds::Kind;
 
 // A stem has 1 to 8 characters, with zeros after them; mark 0 is the plain spelling.
@@ -46,7 +46,7 @@ pub struct Entry {
 
 impl Entry {
     // What an unused place of a row holds.
-    pub const BLANK: Entry = Entry {
+    pub const UNUSED: Entry = Entry {
         node: Node {
             kind: Kind::Card,
             name: Name::NONE,
@@ -58,7 +58,7 @@ impl Entry {
 
 // Makes every place of a row unused.
 pub fn clear_row(row: &mut [Entry])
-    ensures { λ _. ⌜ now (row .exit) ≡ replicate (length (now (row .entry))) blank-entry ⌝ }
+    ensures { λ _. ⌜ now (row .exit) ≡ replicate (length (now (row .entry))) unused-entry ⌝ }
 {
-    row.fill(Entry::BLANK);
+    row.fill(Entry::UNUSED);
 }

@@ -6,3 +6,4 @@ mod LineParts
 mod Stacks
 mod ReadParts
 mod Readings
+mod Summing

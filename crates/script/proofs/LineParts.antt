@@ -20,14 +20,14 @@ use Rattle.model.specs.declared.nodes.Origin.{Origin}
 use Rattle.model.specs.declared.nodes.Origin.the-variants.{Outer}
 use Rattle.model.specs.declared.nodes.Entry.{Entry}
 use Rattle.model.specs.Lists.{if-some}
-use Rattle.model.specs.Kinds.{row, role-named}
+use Rattle.model.specs.Kinds.{row}
 use Rattle.model.specs.Names.{no-name}
 use Rattle.model.specs.Fields.{Form, plain, draft, Wanted, the-name, the-number, the-origin, wanted, pieces, read-fields, bare, kind-of, name-field, number-field, origin-field}
 use Rattle.model.specs.Reading.{of-fields}
 use Rattle.model.specs.Table.{RowOf, shown, row-of}
 use Rattle.laws.proofs.Pieces.{cut}
 use Rattle.script.specs.Cuts.{before}
-use Rattle.script.specs.LineReads.{fields-from, Value, a-field, name-from, number-from, origin-from, origin-wanted, entry-of}
+use Rattle.script.specs.LineReads.{fields-from, Value, a-field, name-from, number-from, origin-from, entry-of}
 use Rattle.script.proofs.FieldParts.{pieces-all, pieces-first}
 
 abbrev split-at : List ℕ → ℕ → List (List ℕ)
@@ -73,37 +73,6 @@ some-left line at h e =
     let w : c .first ∷ c .more ≡ [] = sym (c .are) ∙ (sym (ap fields-from (drop-more line at 0 h)) ∙ e) in
     let z : _≡_ {A = ℕ} 0 1 = cc in
     omega arith
-
--- Which values a role, a kind and a form have
-
-pub name-from-plain : (r : Role) (fs : List (List ℕ)) → role-named r ≡ false → name-from r fs ≡ Some (record { value = no-name; rest = fs })
-name-from-plain Plain fs e = refl
-name-from-plain Declares fs e = let z : _≡_ {A = ℕ} 0 1 = cc in absurd (omega arith)
-name-from-plain Refers fs e = let z : _≡_ {A = ℕ} 0 1 = cc in absurd (omega arith)
-
-pub name-from-named : (r : Role) (fs : List (List ℕ)) → role-named r ≡ true → name-from r fs ≡ a-field name-field fs
-name-from-named Plain fs e = let z : _≡_ {A = ℕ} 0 1 = cc in absurd (omega arith)
-name-from-named Declares fs e = refl
-name-from-named Refers fs e = refl
-
-pub origin-from-none : (form : Form) (r : Role) (fs : List (List ℕ)) → origin-wanted form r ≡ false → origin-from form r fs ≡ Some (record { value = Outer; rest = fs })
-origin-from-none plain r fs e = refl
-origin-from-none draft Plain fs e = refl
-origin-from-none draft Declares fs e = let z : _≡_ {A = ℕ} 0 1 = cc in absurd (omega arith)
-origin-from-none draft Refers fs e = let z : _≡_ {A = ℕ} 0 1 = cc in absurd (omega arith)
-
-pub origin-from-some : (form : Form) (r : Role) (fs : List (List ℕ)) → origin-wanted form r ≡ true → origin-from form r fs ≡ a-field origin-field fs
-origin-from-some plain r fs e = let z : _≡_ {A = ℕ} 0 1 = cc in absurd (omega arith)
-origin-from-some draft Plain fs e = let z : _≡_ {A = ℕ} 0 1 = cc in absurd (omega arith)
-origin-from-some draft Declares fs e = refl
-origin-from-some draft Refers fs e = refl
-
--- a field that is read, or not
-pub field-read : {A : Type 0} (read : List ℕ → Option A) (w : Option (Value A)) (fs : List (List ℕ)) (f : List ℕ) (gs : List (List ℕ)) (o : Option A) → w ≡ a-field read fs → fs ≡ f ∷ gs → read f ≡ o → w ≡ if-some o (λ a. Some (record { value = a; rest = gs }))
-field-read read w fs f gs o v e h = v ∙ (ap (a-field read) e ∙ ap (λ x. if-some x (λ a. Some (record { value = a; rest = gs }))) h)
-
-pub field-missing : {A : Type 0} (read : List ℕ → Option A) (w : Option (Value A)) (fs : List (List ℕ)) → w ≡ a-field read fs → fs ≡ [] → w ≡ None
-field-missing read w fs v e = v ∙ ap (a-field read) e
 
 -- The entry that the fields make
 

@@ -5,7 +5,8 @@ use mathlib.Core.List.{List, [], _∷_, _++_}
 use Prim.Native.Nat.{ℕ, _<_, _≤_}
 use native.Mathlib.Omega.{arith}
 use lib.Dec.{leb}
-use lib.ListN.{length, take, drop, replicate}
+use lib.ListN.{length, take, drop, replicate, length-append}
+use Rattle.std.specs.Vec.{made}
 use Rattle.std.specs.declared.option.Option.the-variants.{None}
 use Rattle.std.specs.declared.result.Result.{Result}
 use Rattle.std.specs.declared.result.Result.the-variants.{Ok, Err}
@@ -20,12 +21,12 @@ use Rattle.model.specs.declared.faults.TextFault.{TextFault}
 use Rattle.model.specs.declared.faults.TextFault.the-variants.{TooShort, Read}
 use Rattle.model.specs.Lists.{and-then, raised}
 use Rattle.model.specs.Kinds.{Grammar}
-use Rattle.model.specs.Names.{nodes, blank-entry}
+use Rattle.model.specs.Names.{nodes, unused-entry}
 use Rattle.model.specs.Fields.{Form, plain, draft}
 use Rattle.model.specs.Reading.{Read-out, lines, read-lines, read, read-into, counted, row-after}
 use Rattle.model.specs.Writing.{write, write-draft}
 use Rattle.model.specs.Fitting.{Program, DraftProgram}
-use Rattle.laws.proofs.RoundTrips.{round-trips, draft-round-trips}
+use Rattle.laws.proofs.RoundTrips.{round-trips, draft-round-trips, length-nodes}
 use Rattle.script.specs.Reads.{rest-read, count-of, In-row, Returned, Filled}
 use Rattle.script.specs.Trips.{Read-back, Draft-back}
 
@@ -85,9 +86,9 @@ pub row-filled : (w : Into) (n : ℕ) (old row : List Entry) → Filled w (Ok n)
 row-filled (Ok es) n old row f = f .entries
 row-filled (Err e) n old row f = let v = f .value in let z : _≡_ {A = ℕ} 0 1 = cc in absurd (omega arith)
 
-pub row-blank : (w : Into) (e : TextFault) (old row : List Entry) → Filled w (Err e) old row → replicate (length old) blank-entry ≡ row-after w old
-row-blank (Ok es) e old row f = let v = f .value in let z : _≡_ {A = ℕ} 0 1 = cc in absurd (omega arith)
-row-blank (Err d) e old row f = refl
+pub row-unused : (w : Into) (e : TextFault) (old row : List Entry) → Filled w (Err e) old row → replicate (length old) unused-entry ≡ row-after w old
+row-unused (Ok es) e old row f = let v = f .value in let z : _≡_ {A = ℕ} 0 1 = cc in absurd (omega arith)
+row-unused (Err d) e old row f = refl
 
 -- What the entries say
 
@@ -113,27 +114,54 @@ module _ (g : Grammar) (text : List ℕ) (old row : List Entry) where
   unfolding into
   accepted form es h = into-was form (leb 1024 (length old)) es h
 
-  plain-trip : (w : Into) (r : Result ℕ TextFault) → into plain ≡ w → r ≡ counted w → row ≡ row-after w old → Read-back g text r row
+  within-row : (es : List Entry) (r : Result ℕ TextFault) → length es ≤ 1024 → r ≡ Ok (length es) → row ≡ es ++ drop (length es) old → made r (λ n. (n ≤ 1024) × (n ≤ length row))
+  within-row es r few v a =
+      subst (λ (x : Result ℕ TextFault). made x (λ n. (n ≤ 1024) × (n ≤ length row))) (sym v)
+      (few, omega (arith, ap length a, length-append es (drop (length es) old)))
+
+  record Trip (Back : Result ℕ TextFault → List Entry → Type 0) (r : Result ℕ TextFault) : Type 0 where
+    back : Back r row
+    within : made r (λ n. (n ≤ 1024) × (n ≤ length row))
+
+  -- a refusal says nothing of the row
+  refused-trip : (Back : Result ℕ TextFault → List Entry → Type 0) (f : TextFault) (r : Result ℕ TextFault) → r ≡ Err f → Back (Err f) row → Trip Back r
+  refused-trip Back f r v b = subst (Trip Back) (sym v) (record { back = b; within = tt })
+
+  plain-trip : (w : Into) (r : Result ℕ TextFault) → into plain ≡ w → r ≡ counted w → row ≡ row-after w old → Trip (Read-back g text) r
   plain-trip (Ok es) r e v a =
-      let was = accepted plain es e .was in
       let front = front-is es old row (length es) refl a in
-      let whole = round-trips g .read-is-written text (nodes es) (ap (λ (x : Read-out). and-then x (λ fs. Ok (nodes fs))) was) in
-      subst (λ (x : Result ℕ TextFault). Read-back g text x row) (sym v)
-      (subst (λ (x : List Entry). Program g (nodes x) × (write (nodes x) ≡ text)) (sym front) whole)
-  plain-trip (Err f) r e v a = subst (λ (x : Result ℕ TextFault). Read-back g text x row) (sym v) tt
+      let whole = round-trips g .read-is-written text (nodes es) (ap (λ (x : Read-out). and-then x (λ fs. Ok (nodes fs))) (accepted plain es e .was)) in
+      record {
+        back = subst (λ (x : Result ℕ TextFault). Read-back g text x row) (sym v)
+            (subst (λ (x : List Entry). Program g (nodes x) × (write (nodes x) ≡ text)) (sym front) whole);
+        within = within-row es r (omega (arith, whole .0 .few, length-nodes es)) v a;
+      }
+  plain-trip (Err f) r e v a = refused-trip (Read-back g text) f r v tt
 
-  draft-trip : (w : Into) (r : Result ℕ TextFault) → into draft ≡ w → r ≡ counted w → row ≡ row-after w old → Draft-back g text r row
+  draft-trip : (w : Into) (r : Result ℕ TextFault) → into draft ≡ w → r ≡ counted w → row ≡ row-after w old → Trip (Draft-back g text) r
   draft-trip (Ok es) r e v a =
-      let was = accepted draft es e .was in
       let front = front-is es old row (length es) refl a in
-      subst (λ (x : Result ℕ TextFault). Draft-back g text x row) (sym v)
-      (subst (λ (x : List Entry). DraftProgram g x × (write-draft x ≡ text)) (sym front) (draft-round-trips g .read-is-written text es was))
-  draft-trip (Err f) r e v a = subst (λ (x : Result ℕ TextFault). Draft-back g text x row) (sym v) tt
+      let whole = draft-round-trips g .read-is-written text es (accepted draft es e .was) in
+      record {
+        back = subst (λ (x : Result ℕ TextFault). Draft-back g text x row) (sym v)
+            (subst (λ (x : List Entry). DraftProgram g x × (write-draft x ≡ text)) (sym front) whole);
+        within = within-row es r (omega (arith, whole .0 .program .few, length-nodes es)) v a;
+      }
+  draft-trip (Err f) r e v a = refused-trip (Draft-back g text) f r v tt
 
-  pub read-back : (r : Result ℕ TextFault) → r ≡ counted (read-into g plain text (length old)) → row ≡ row-after (read-into g plain text (length old)) old → Read-back g text r row
-  unfolding into
-  read-back r v a = plain-trip (into plain) r refl v a
+  module _ (r : Result ℕ TextFault) where
+    pub read-back : r ≡ counted (read-into g plain text (length old)) → row ≡ row-after (read-into g plain text (length old)) old → Read-back g text r row
+    unfolding into
+    read-back v a = plain-trip (into plain) r refl v a .back
 
-  pub draft-back : (r : Result ℕ TextFault) → r ≡ counted (read-into g draft text (length old)) → row ≡ row-after (read-into g draft text (length old)) old → Draft-back g text r row
-  unfolding into
-  draft-back r v a = draft-trip (into draft) r refl v a
+    pub read-within : r ≡ counted (read-into g plain text (length old)) → row ≡ row-after (read-into g plain text (length old)) old → made r (λ n. (n ≤ 1024) × (n ≤ length row))
+    unfolding into
+    read-within v a = plain-trip (into plain) r refl v a .within
+
+    pub draft-back : r ≡ counted (read-into g draft text (length old)) → row ≡ row-after (read-into g draft text (length old)) old → Draft-back g text r row
+    unfolding into
+    draft-back v a = draft-trip (into draft) r refl v a .back
+
+    pub draft-within : r ≡ counted (read-into g draft text (length old)) → row ≡ row-after (read-into g draft text (length old)) old → made r (λ n. (n ≤ 1024) × (n ≤ length row))
+    unfolding into
+    draft-within v a = draft-trip (into draft) r refl v a .within

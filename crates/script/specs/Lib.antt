@@ -4,4 +4,5 @@ pub mod Forms
 pub mod LineReads
 pub mod Runs
 pub mod Reads
+pub mod Summaries
 pub mod Trips

@@ -3,6 +3,7 @@ ghost use mathlib.Core.Path.{_≡_};
 ghost use mathlib.Core.List.{[], _∷_};
 ghost use Prim.Native.Nat.{ℕ, _+_, _<_, _≤_};
 ghost use lib.ListN.{length};
+ghost use Rattle.std.specs.Vec.{made};
 ghost use Rattle.std.specs.declared.option.Option.the-variants.{None};
 ghost use Rattle.model.specs.declared.kinds.Sort.the-variants.{Root};
 ghost use Rattle.model.specs.Fields.{plain, draft};
@@ -119,7 +120,7 @@ fn fill_row<G: Grammar>(form: Form, text: &[u8], row: &mut [Entry]) -> Result<us
     Ok(count)
 }
 
-// The same, with the row blank after a refusal.
+// The same, with every place of the row unused after a refusal.
 fn read_form<G: Grammar>(form: Form, text: &[u8], row: &mut [Entry]) -> Result<usize, TextFault>
     ensures value { λ r. ⌜ r ≡ counted (read-into (G·Grammar .grammar) (form-of form) (now (text .entry)) (length (now (row .entry)))) ⌝ }
     ensures after { λ _. ⌜ now (row .exit) ≡ row-after (read-into (G·Grammar .grammar) (form-of form) (now (text .entry)) (length (now (row .entry)))) (now (row .entry)) ⌝ }
@@ -134,11 +135,12 @@ fn read_form<G: Grammar>(form: Form, text: &[u8], row: &mut [Entry]) -> Result<u
 }
 
 // Reads a script: how many entries stand at the front of the row, or why it is refused.
-// The row has at least 1,024 places. Beyond the entries it is as it was; after a refusal it is blank.
+// The row has at least 1,024 places. Beyond the entries it is as it was; after a refusal all places are unused.
 pub fn read<G: Grammar>(text: &[u8], row: &mut [Entry]) -> Result<usize, TextFault>
     ensures value { λ r. ⌜ r ≡ counted (read-into (G·Grammar .grammar) plain (now (text .entry)) (length (now (row .entry)))) ⌝ }
     ensures after { λ _. ⌜ now (row .exit) ≡ row-after (read-into (G·Grammar .grammar) plain (now (text .entry)) (length (now (row .entry)))) (now (row .entry)) ⌝ }
     ensures back { λ r. ⌜ Read-back (G·Grammar .grammar) (now (text .entry)) r (now (row .exit)) ⌝ }
+    ensures within { λ r. ⌜ made r (λ n. (n ≤ 1024) × (n ≤ length (now (row .exit)))) ⌝ }
 {
     read_form::<G>(Form::Script, text, row)
 }
@@ -148,6 +150,7 @@ pub fn read_draft<G: Grammar>(text: &[u8], row: &mut [Entry]) -> Result<usize, T
     ensures value { λ r. ⌜ r ≡ counted (read-into (G·Grammar .grammar) draft (now (text .entry)) (length (now (row .entry)))) ⌝ }
     ensures after { λ _. ⌜ now (row .exit) ≡ row-after (read-into (G·Grammar .grammar) draft (now (text .entry)) (length (now (row .entry)))) (now (row .entry)) ⌝ }
     ensures back { λ r. ⌜ Draft-back (G·Grammar .grammar) (now (text .entry)) r (now (row .exit)) ⌝ }
+    ensures within { λ r. ⌜ made r (λ n. (n ≤ 1024) × (n ≤ length (now (row .exit)))) ⌝ }
     ensures again { λ _. ⌜ Draft-written-is-read (G·Grammar .grammar) ⌝ }
 {
     read_form::<G>(Form::Draft, text, row)

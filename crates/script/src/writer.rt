@@ -2,6 +2,7 @@
 ghost use mathlib.Core.Path.{_≡_};
 ghost use Prim.Native.Nat.{ℕ, _+_, _≤_};
 ghost use lib.ListN.{length, take};
+ghost use Rattle.std.specs.Vec.{made};
 ghost use Rattle.model.specs.Names.{letters, nodes};
 ghost use Rattle.model.specs.Fields.{plain, write-mark, write-name};
 ghost use Rattle.model.specs.Writing.{write-line, write-lines, write-into, measured, buffer-after};
@@ -176,6 +177,7 @@ pub fn write(program: &[Entry], buffer: &mut [u8]) -> Result<usize, TextFault>
     ensures value { λ r. ⌜ r ≡ measured (write-into (nodes (now (program .entry))) (length (now (buffer .entry)))) ⌝ }
     ensures after { λ _. ⌜ now (buffer .exit) ≡ buffer-after (write-into (nodes (now (program .entry))) (length (now (buffer .entry)))) (now (buffer .entry)) ⌝ }
     ensures back { λ r. ⌜ Write-back (nodes (now (program .entry))) r (now (buffer .exit)) ⌝ }
+    ensures within { λ r. ⌜ made r (λ n. n ≤ length (now (buffer .exit))) ⌝ }
 {
     if program.len() > 1024 {
         return Err(TextFault::Read(ReadFault::TooManyNodes));

@@ -1,4 +1,4 @@
-use Rattle.script.proofs.Readings.{read-back}
+use Rattle.script.proofs.Readings.{read-back, read-within}
 use Rattle.script.proofs.reader.read.Needs as need
 
 pub returns : need.returns
@@ -8,4 +8,5 @@ returns g c =
       value = e .value;
       after = e .after;
       back = read-back (g .G·Grammar .grammar) (c .args .text .now) (c .args .row .now) (c .read-form .last .row) (c .read-form .result) (e .value) (e .after);
+      within = read-within (g .G·Grammar .grammar) (c .args .text .now) (c .args .row .now) (c .read-form .last .row) (c .read-form .result) (e .value) (e .after);
     }

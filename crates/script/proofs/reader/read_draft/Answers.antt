@@ -1,5 +1,5 @@
 use Rattle.laws.proofs.RoundTrips.{draft-round-trips}
-use Rattle.script.proofs.Readings.{draft-back}
+use Rattle.script.proofs.Readings.{draft-back, draft-within}
 use Rattle.script.proofs.reader.read_draft.Needs as need
 
 pub returns : need.returns
@@ -9,5 +9,6 @@ returns g c =
       value = e .value;
       after = e .after;
       back = draft-back (g .G·Grammar .grammar) (c .args .text .now) (c .args .row .now) (c .read-form .last .row) (c .read-form .result) (e .value) (e .after);
+      within = draft-within (g .G·Grammar .grammar) (c .args .text .now) (c .args .row .now) (c .read-form .last .row) (c .read-form .result) (e .value) (e .after);
       again = draft-round-trips (g .G·Grammar .grammar) .written-is-read;
     }

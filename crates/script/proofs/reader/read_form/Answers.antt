@@ -1,8 +1,8 @@
 use mathlib.Core.Path.{ap, _∙_}
 use Prim.Native.Nat.{ℕ}
 use lib.ListN.{replicate}
-use Rattle.model.specs.Names.{blank-entry}
-use Rattle.script.proofs.Readings.{row-filled, row-blank}
+use Rattle.model.specs.Names.{unused-entry}
+use Rattle.script.proofs.Readings.{row-filled, row-unused}
 use Rattle.script.proofs.reader.read_form.Needs as need
 
 pub returns-in-Ok : need.returns-in-Ok
@@ -13,4 +13,4 @@ returns-in-Ok g c =
 pub returns-in-Err : need.returns-in-Err
 returns-in-Err g c =
     let f = c .in-Err .ensures tt in
-    record { value = f .value; after = c .clear-row .ensures ∙ (ap (λ (n : ℕ). replicate n blank-entry) (c .fill-row .kept .row) ∙ row-blank _ (c .in-Err .fault) (c .args .row .now) (c .fill-row .last .row) f) }
+    record { value = f .value; after = c .clear-row .ensures ∙ (ap (λ (n : ℕ). replicate n unused-entry) (c .fill-row .kept .row) ∙ row-unused _ (c .in-Err .fault) (c .args .row .now) (c .fill-row .last .row) f) }

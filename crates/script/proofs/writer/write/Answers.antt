@@ -13,12 +13,12 @@ use Rattle.script.proofs.writer.write.Needs as need
 pub returns-then-program-gt1024 : need.returns-then-program-gt1024
 returns-then-program-gt1024 c =
     let e = sym (write-many (c .args .program .now) (length (c .args .buffer .now)) (c .if-program-gt1024 .taken)) in
-    record { value = ap measured e; after = ap (λ (w : Result (List ℕ) TextFault). buffer-after w (c .args .buffer .now)) e; back = tt }
+    record { value = ap measured e; after = ap (λ (w : Result (List ℕ) TextFault). buffer-after w (c .args .buffer .now)) e; back = tt; within = tt }
 
 pub returns-then-needed-buffer : need.returns-then-needed-buffer
 returns-then-needed-buffer c =
     let e = sym (write-short (c .args .program .now) (length (c .args .buffer .now)) (c .text-length-needed .result) (c .if-program-gt1024 .left) (c .text-length-needed .ensures) (c .if-needed-buffer .taken)) in
-    record { value = ap measured e; after = ap (λ (w : Result (List ℕ) TextFault). buffer-after w (c .args .buffer .now)) e; back = tt }
+    record { value = ap measured e; after = ap (λ (w : Result (List ℕ) TextFault). buffer-after w (c .args .buffer .now)) e; back = tt; within = tt }
 
 pub returns : need.returns
 returns c =
@@ -28,4 +28,5 @@ returns c =
       value = ap {B = Result ℕ TextFault} Ok (c .put-lines .ensures .end) ∙ ap measured e;
       after = c .put-lines .ensures .after ∙ (front-pasted _ d ∙ ap (λ (w : Result (List ℕ) TextFault). buffer-after w d) e);
       back = written-back (c .args .program .now) d (c .put-lines .last .out) (c .put-lines .result) (c .put-lines .ensures .end) (c .put-lines .ensures .after);
+      within = omega (arith, c .put-lines .ensures .end, c .put-lines .kept .out, c .text-length-needed .ensures, c .if-needed-buffer .left);
     }
