@@ -129,7 +129,7 @@ impl TextFault {
 pub impl From<ReadFault> for TextFault as TextFromRead {
     ghost converts = { λ e r. r ≡ Read e };
 
-    fn from(fault: ReadFault) -> TextFault {
-        TextFault::Read(fault)
+    fn from(refused: ReadFault) -> TextFault {
+        TextFault::Read(refused)
     }
 }
