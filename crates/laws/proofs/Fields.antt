@@ -19,7 +19,7 @@ use Rattle.model.specs.declared.nodes.Entry.{Entry}
 use Rattle.model.specs.Lists.{if-some, empty}
 use Rattle.model.specs.Kinds.{row, role-named, has-name}
 use Rattle.model.specs.Names.{no-name}
-use Rattle.model.specs.Fields.{Form, plain, draft, Wanted, a-name, a-number, an-origin, the-name, the-number, the-origin, wanted, read-field, read-fields, bare, name-field, number-field, origin-field, write-name, write-origin, write-field, write-fields}
+use Rattle.model.specs.Fields.{Form, plain, draft, Wanted, a-name, a-number, an-origin, the-name, the-number, the-origin, wanted, read-field, read-fields, bare, name-field, number-field, origin-field, write-name, write-origin}
 use Rattle.model.specs.Fitting.{name-fits, number-fits, origin-fits}
 use Rattle.laws.proofs.Pieces.{Over, went, kept, none-some}
 use Rattle.laws.proofs.Numbers.{number-written, number-read, over-decimal}

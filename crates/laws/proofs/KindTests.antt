@@ -1,6 +1,6 @@
 -- What holds of each row of the table of kinds, by one computed test.
 use mathlib.Core.Path.{_≡_, refl, sym, ap, _∙_}
-use mathlib.Core.Bool.{Bool, true, false, cond, _&&_}
+use mathlib.Core.Bool.{Bool, true, false, cond}
 use mathlib.Core.List.{List, [], _∷_}
 use Prim.Native.Nat.{ℕ, _+_, _<_, _≤_}
 use lib.Dec.{leb, ltb}
@@ -9,7 +9,7 @@ use Rattle.std.specs.shelf.Text.{sameBytes}
 use Rattle.std.specs.declared.option.Option.{Option}
 use Rattle.std.specs.declared.option.Option.the-variants.{Some, None}
 use Rattle.std.proofs.shelf.Equals.{sameBytes-decides}
-use Rattle.std.proofs.shelf.Tests.{and-parts, leb-true, ltb-true, false≢true}
+use Rattle.std.proofs.shelf.Tests.{leb-true, ltb-true, false≢true}
 use Rattle.model.specs.declared.kinds.Kind.{Kind}
 use Rattle.model.specs.Lists.{first-with}
 use Rattle.model.specs.Kinds.{row, kinds, has-name, is}

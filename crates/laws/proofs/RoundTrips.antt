@@ -1,6 +1,6 @@
 -- Whole texts: reading and writing undo one another.
 use mathlib.Core.Path.{_≡_, refl, sym, ap, subst, _∙_}
-use mathlib.Core.Bool.{Bool, true, false, cond, _&&_}
+use mathlib.Core.Bool.{Bool, true, false, _&&_}
 use mathlib.Core.List.{List, [], _∷_, _++_, append-assoc, map}
 use Prim.Native.Nat.{ℕ, suc, _≤_}
 use native.Mathlib.Omega.{arith}
@@ -26,7 +26,7 @@ use Rattle.model.specs.Names.{root-of, nodes, entries}
 use Rattle.model.specs.Fields.{Form, plain, draft, Wanted, the-name, the-number, the-origin, wanted, write-field, write-fields}
 use Rattle.model.specs.Reading.{lines, Read-out, read-lines, read}
 use Rattle.model.specs.Writing.{write-line, write-lines, write}
-use Rattle.model.specs.Fitting.{fits, name-fits, number-fits, proper, Of, Program, origin-fits, proper-origins}
+use Rattle.model.specs.Fitting.{fits, name-fits, number-fits, proper, Program, origin-fits, proper-origins}
 use Rattle.laws.specs.RoundTrips.{Written-is-read, Read-is-written, Read-as-entries, Draft-written-is-read, Draft-read-is-written, Round-trips, Draft-round-trips, Written-is-short, Draft-written-is-short}
 use Rattle.laws.proofs.Pieces.{after-each, unlines-lines}
 use Rattle.laws.proofs.Fields.{name-fields, number-fields, origin-fields, fields, outer-is, Proper-node}

@@ -7,7 +7,7 @@ use native.Mathlib.Omega.{arith}
 use lib.ListN.{length, getD, drop, length-map}
 use Rattle.std.specs.shelf.Text.{sameBytes}
 use Rattle.std.specs.declared.option.Option.{Option}
-use Rattle.std.specs.declared.option.Option.the-variants.{Some, None}
+use Rattle.std.specs.declared.option.Option.the-variants.{Some}
 use Rattle.std.proofs.shelf.Equals.{sameBytes-decides}
 use Rattle.std.proofs.shelf.Lists.{getD-map, drop-more}
 use Rattle.std.proofs.shelf.Tests.{cond-true, cond-false, and-parts, leb-true}
@@ -52,9 +52,6 @@ kind-from w i = first-with (λ k. sameBytes w (row k .word)) (drop i kinds)
 pub from-first : (w : List ℕ) → kind-from w 0 ≡ kind-of w
 unfolding kind-of
 from-first w = refl
-
-pub not-found : (w : List ℕ) → kind-from w 25 ≡ None
-not-found w = refl
 
 found-here : (w : List ℕ) (i : ℕ) → i < 25 → sameBytes w (row (getD kinds i Card) .word) ≡ true → kind-from w i ≡ Some (getD kinds i Card)
 found-here w i b h = ap (first-with (λ k. sameBytes w (row k .word))) (drop-more kinds i Card b) ∙ cond-true _ _ _ h

@@ -3,9 +3,7 @@ use mathlib.Core.Bool.{Bool, cond, not, _&&_}
 use mathlib.Core.List.{List, [], _∷_, map}
 use Prim.Native.Nat.{ℕ, suc, _+_}
 use lib.Dec.{eqb}
-use lib.ListN.{length, getD}
-use Rattle.std.specs.declared.option.Option.{Option}
-use Rattle.std.specs.declared.option.Option.the-variants.{Some, None}
+use lib.ListN.{length}
 use Rattle.std.specs.declared.result.Result.{Result}
 use Rattle.std.specs.declared.result.Result.the-variants.{Ok}
 use Rattle.model.specs.declared.nodes.Name.{Name}
@@ -18,7 +16,6 @@ use Rattle.model.specs.Lists.{keep, and-then, places}
 use Rattle.model.specs.Kinds.{has-name}
 use Rattle.model.specs.Names.{kind-at, node-at, entry-at}
 use Rattle.model.specs.Classes.{Draft, source-of}
-use Rattle.model.specs.Repair.{Mended}
 use Rattle.model.specs.Stages.{Transformation, Repaired, repairing, Stage, under-repair, in-row}
 
 -- the loaded script, the drafts accepted since, the latest first, and the program now; new, it holds no node

@@ -1,5 +1,5 @@
 -- The five calls: what a session answers, and the book after it.
-use mathlib.Core.Bool.{Bool, true, false, cond, _&&_}
+use mathlib.Core.Bool.{true, false, cond, _&&_}
 use mathlib.Core.List.{List, [], _∷_}
 use Prim.Native.Nat.{ℕ}
 use lib.Dec.{eqb, leb, ltb}
@@ -8,7 +8,6 @@ use Rattle.std.specs.declared.option.Option.{Option}
 use Rattle.std.specs.declared.option.Option.the-variants.{Some, None}
 use Rattle.std.specs.declared.result.Result.{Result}
 use Rattle.std.specs.declared.result.Result.the-variants.{Ok, Err}
-use Rattle.model.specs.declared.nodes.Node.{Node}
 use Rattle.model.specs.declared.faults.SessionFault.{SessionFault}
 use Rattle.model.specs.declared.faults.SessionFault.the-variants.{Read, Repair, NoProgram, TooShort, NoSuch}
 use Rattle.model.specs.declared.answers.Told.{Told}

@@ -1,5 +1,5 @@
 -- Flatten: from tree to flat.
-use mathlib.Core.Bool.{Bool, true, false, cond}
+use mathlib.Core.Bool.{cond}
 use mathlib.Core.List.{List, [], _∷_}
 use Prim.Native.Nat.{ℕ, _+_, _*_}
 use lib.ListN.{getD}
@@ -12,7 +12,7 @@ use Rattle.model.specs.Forest.{Forest, nil, tree, beside, over, leaf, grow, si
 use Rattle.model.specs.Scopes.{tree-language, flat}
 use Rattle.model.specs.Classes.{Draft, Source}
 use Rattle.model.specs.Stages.{Transformation}
-use Rattle.model.specs.Plans.{Naming, like, own, Planned, Plan, plain, counted, named, copy, spell-out}
+use Rattle.model.specs.Plans.{Naming, like, own, Plan, plain, counted, named, copy, spell-out}
 
 -- what a statement or an expression becomes: steps, and for an expression the value after them
 pub record Flattened : Type 0 where

@@ -1,5 +1,4 @@
 -- A list of nodes in preorder and the forest that grows from it: first child, next sibling.
-use mathlib.Core.Bool.{Bool, true, false}
 use mathlib.Core.List.{List, [], _∷_, _++_}
 use Prim.Native.Nat.{ℕ, zero, suc, _+_}
 use lib.ListN.{length}

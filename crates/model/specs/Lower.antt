@@ -1,9 +1,9 @@
 -- Lower: from card to tree.
-use mathlib.Core.Bool.{Bool, true, false, cond}
-use mathlib.Core.List.{List, [], _∷_}
+use mathlib.Core.Bool.{true, false, cond}
+use mathlib.Core.List.{List}
 use Prim.Native.Nat.{ℕ, _+_, _*_}
 use Rattle.model.specs.declared.kinds.Kind.{Kind}
-use Rattle.model.specs.declared.kinds.Kind.the-variants.{Tree, Field, Def, Out, Let, Put, End, Num, Ref, Byte, Add, Mul, If, Bind, First, Level}
+use Rattle.model.specs.declared.kinds.Kind.the-variants.{Tree, Field, Def, Let, Put, End, Num, Ref, Byte, Add, Mul, If, Bind, First, Level}
 use Rattle.std.specs.declared.result.Result.the-variants.{Ok}
 use Rattle.model.specs.declared.nodes.Node.{Node}
 use Rattle.model.specs.Kinds.{is}
@@ -11,7 +11,7 @@ use Rattle.model.specs.Forest.{Forest, nil, tree, first, after, beside, over, 
 use Rattle.model.specs.Scopes.{card, tree-language}
 use Rattle.model.specs.Classes.{Draft, Source}
 use Rattle.model.specs.Stages.{Transformation}
-use Rattle.model.specs.Plans.{Naming, like, own, world, Planned, Plan, plain, counted, named, copy, spell-out}
+use Rattle.model.specs.Plans.{Naming, like, own, world, Plan, plain, counted, named, copy, spell-out}
 
 -- `first a b` becomes `bind t` of a with body if(t, t, b), and `level a` the sum of a and datum; all else is copied
 pub data Turn : Type 0 where

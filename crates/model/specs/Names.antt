@@ -11,8 +11,7 @@ use Rattle.model.specs.declared.kinds.Kind.{Kind}
 use Rattle.model.specs.declared.kinds.Kind.the-variants.{Card}
 use Rattle.model.specs.declared.nodes.Name.{Name}
 use Rattle.model.specs.declared.nodes.Node.{Node}
-use Rattle.model.specs.declared.nodes.Origin.{Origin}
-use Rattle.model.specs.declared.nodes.Origin.the-variants.{Copied, Private, Outer}
+use Rattle.model.specs.declared.nodes.Origin.the-variants.{Outer}
 use Rattle.model.specs.declared.nodes.Entry.{Entry}
 
 -- Three questions are all that is ever asked of names.

@@ -1,6 +1,6 @@
 -- Plans: a draft before its names are spelled. They depend on kinds, numbers and nesting alone.
-use mathlib.Core.Bool.{Bool, true, false, cond}
-use mathlib.Core.List.{List, [], _∷_, map}
+use mathlib.Core.Bool.{cond}
+use mathlib.Core.List.{List, map}
 use Prim.Native.Nat.{ℕ}
 use Prim.Native.String.{String}
 use Rattle.model.specs.declared.kinds.Kind.{Kind}

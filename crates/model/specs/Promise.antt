@@ -25,7 +25,7 @@ use Rattle.model.specs.Repair.{Mended, Repairs, mend}
 use Rattle.model.specs.Stages.{World}
 use Rattle.model.specs.Book.{Book, new, Group, Came, from-script, from-group, from-outside, came, origin}
 use Rattle.model.specs.Calls.{Call, load, step, adopt, tell, write-to, hear, book-after}
-use Rattle.model.specs.Rules.{kinds-of, numbers-of, Alike, Visible, Keeps}
+use Rattle.model.specs.Rules.{kinds-of, numbers-of, Alike, Keeps}
 
 -- True to names ------------------------------------------------------------
 

@@ -13,7 +13,7 @@ use Rattle.model.specs.declared.nodes.Node.{Node}
 use Rattle.model.specs.Lists.{first-with, places}
 use Rattle.model.specs.Kinds.{row, is, declares, Grammar, card-grammar, tree-grammar, flat-grammar, root-grammar}
 use Rattle.model.specs.Names.{alike, name-at}
-use Rattle.model.specs.Forest.{Forest, nil, tree, Shape, shape, size, children, pre}
+use Rattle.model.specs.Forest.{nil, tree, Shape, shape, size, children, pre}
 
 -- for the name at a place, the declarations that it can see: it depends on kinds and nesting alone
 abbrev pub Order : Type 0

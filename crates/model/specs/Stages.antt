@@ -8,7 +8,6 @@ use Rattle.std.specs.declared.option.Option.{Option}
 use Rattle.std.specs.declared.result.Result.{Result}
 use Rattle.std.specs.declared.result.Result.the-variants.{Ok, Err}
 use Rattle.model.specs.declared.nodes.Node.{Node}
-use Rattle.model.specs.declared.nodes.Entry.{Entry}
 use Rattle.model.specs.declared.faults.StageFault.the-variants.{WrongSource, DraftTooLarge}
 use Rattle.model.specs.declared.faults.DraftFault.{DraftFault}
 use Rattle.model.specs.declared.faults.DraftFault.the-variants.{Stage as OfStage, Repair as OfRepair}

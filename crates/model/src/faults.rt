@@ -1,6 +1,5 @@
 // Refusals, by the layer that finds them. Number, place and layer of each are defined in specs/Faults.
 ghost use mathlib.Core.Path.{_≡_};
-ghost use Prim.Native.Nat.{ℕ};
 ghost use Rattle.model.specs.Faults.{read-number, read-place, text-number, text-place, text-layer};
 ghost use Rattle.model.specs.declared.faults.TextFault.the-variants.{Read};
 

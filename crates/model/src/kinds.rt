@@ -1,8 +1,7 @@
 // The 25 kinds, and the table that grammar, reader and writer go by.
 ghost use mathlib.Core.Path.{_≡_};
-ghost use mathlib.Core.Bool.{Bool};
 ghost use mathlib.Core.List.{map};
-ghost use Prim.Native.Nat.{ℕ, _+_};
+ghost use Prim.Native.Nat.{_+_};
 ghost use Rattle.model.specs.Kinds.{is, role-named, kind-number};
 ghost use Rattle.model.specs.Fields.{kind-of};
 ghost use Rattle.model.specs.Table.{shown, table, row-of};

@@ -13,7 +13,7 @@ use Rattle.std.specs.declared.option.Option.{Option}
 use Rattle.std.specs.declared.option.Option.the-variants.{Some, None}
 use Rattle.std.proofs.shelf.Lists.{drop-more, drop-all, take-all, take-replicate, drop-replicate, take-rest}
 use Rattle.std.proofs.shelf.Numerals.{digit-at}
-use Rattle.std.proofs.shelf.Tests.{cases-lt, cond-true, cond-false, and-left, and-from, and-right, le-leb, leb-true, lt-leb, eq-eqb, ne-eqb}
+use Rattle.std.proofs.shelf.Tests.{cases-lt, cond-true, cond-false, and-left, and-from, and-right, le-leb, eq-eqb, ne-eqb}
 use Rattle.model.specs.declared.nodes.Name.{Name}
 use Rattle.model.specs.Lists.{any, if-some}
 use Rattle.model.specs.Names.{padded}
@@ -21,7 +21,7 @@ use Rattle.model.specs.Fields.{joins, pieces, value-from, decimal-form, number-
 use Rattle.laws.proofs.Pieces.{cut, after-each}
 use Rattle.laws.proofs.Numbers.{own}
 use Rattle.script.specs.Buffers.{pasted}
-use Rattle.script.specs.Cuts.{before, at-most, stem-of}
+use Rattle.script.specs.Cuts.{before, stem-of}
 
 -- Finding a separator
 
@@ -77,22 +77,6 @@ pub stem-is : (s : List ℕ) → 0 < length s → length s ≤ 8 → 97 ≤ getD
 stem-is [] h l a b = absurd (omega arith)
 stem-is (c ∷ cs) h l a b =
     sym (both-true (small-letter c) (not (any odd-one cs)) (leb (length (c ∷ cs)) 8) (and-from _ _ (le-leb 97 c a) (le-leb c 122 b)) (le-leb (length (c ∷ cs)) 8 l))
-
-pub stem-low : (s : List ℕ) → getD s 0 0 < 97 → stem-form s ≡ false
-stem-low [] h = refl
-stem-low (c ∷ cs) h = and-left _ (leb (length (c ∷ cs)) 8) (and-left (small-letter c) _ (and-left (leb 97 c) _ (lt-leb 97 c h)))
-
-pub stem-high : (s : List ℕ) → 122 < getD s 0 0 → stem-form s ≡ false
-stem-high [] h = refl
-stem-high (c ∷ cs) h = and-left _ (leb (length (c ∷ cs)) 8) (and-left (small-letter c) _ (and-right (leb 97 c) _ (lt-leb c 122 h)))
-
-pub stem-long : (s : List ℕ) → 8 < length s → stem-form s ≡ false
-stem-long [] h = refl
-stem-long (c ∷ cs) h = and-right (small-letter c && not (any odd-one cs)) _ (lt-leb (length (c ∷ cs)) 8 h)
-
-pub stem-none : (s : List ℕ) → length s ≡ 0 → stem-form s ≡ false
-stem-none [] h = refl
-stem-none (c ∷ cs) h = absurd (omega arith)
 
 -- Padding
 
@@ -206,13 +190,6 @@ pub name-marked : (f : List ℕ) (q m : ℕ) (p : List ℕ) → q ≡ before 39 
 name-marked f q m p e h s n z =
     name-cut f q e h
     ∙ (marked f q (Some m) n ∙ (ap (λ (o : Option ℕ). if-some o (named (take q f))) (cond-false (eqb m 0) _ _ (ne-eqb m 0 z)) ∙ named-at (take q f) m (Some p) s))
-
-pub at-most-most : (most n : ℕ) (r : Option ℕ) (m : ℕ) → r ≡ at-most most n → r ≡ Some m → m ≤ most
-at-most-most most n r m e f = go (leb n most) refl (sym f ∙ e)
-  where
-    go : (t : Bool) → leb n most ≡ t → Some m ≡ cond t (Some n) None → m ≤ most
-    go true w k = let z : m ≡ n = cc in omega (arith, leb-true n most w)
-    go false w k = let z : _≡_ {A = ℕ} 0 1 = cc in absurd (omega arith)
 
 -- Origins
 

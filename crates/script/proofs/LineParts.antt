@@ -22,7 +22,7 @@ use Rattle.model.specs.declared.nodes.Entry.{Entry}
 use Rattle.model.specs.Lists.{if-some}
 use Rattle.model.specs.Kinds.{row}
 use Rattle.model.specs.Names.{no-name}
-use Rattle.model.specs.Fields.{Form, plain, draft, Wanted, the-name, the-number, the-origin, wanted, pieces, read-fields, bare, kind-of, name-field, number-field, origin-field}
+use Rattle.model.specs.Fields.{Form, plain, draft, the-name, the-number, the-origin, wanted, pieces, read-fields, bare, kind-of, name-field, number-field, origin-field}
 use Rattle.model.specs.Reading.{of-fields}
 use Rattle.model.specs.Table.{RowOf, shown, row-of}
 use Rattle.laws.proofs.Pieces.{cut}

@@ -1,14 +1,13 @@
 -- Reading line by line, as the rules do.
 use mathlib.Core.Path.{_≡_, refl, sym, ap, subst, _∙_}
-use mathlib.Core.Bool.{Bool, true, false, cond}
+use mathlib.Core.Bool.{Bool, true, false}
 use mathlib.Core.List.{List, [], _∷_, _++_, append-assoc, append-nil}
 use Prim.Native.Nat.{ℕ, suc, _+_, _-_, _<_, _≤_}
 use native.Mathlib.Omega.{arith}
-use lib.Dec.{eqb, leb, ltb, leb·suc-suc}
+use lib.Dec.{eqb, ltb, leb·suc-suc}
 use lib.ListN.{length, getD, set, take, drop, take-append-drop}
 use Rattle.std.specs.declared.option.Option.{Option}
 use Rattle.std.specs.declared.option.Option.the-variants.{Some, None}
-use Rattle.std.specs.declared.result.Result.{Result}
 use Rattle.std.specs.declared.result.Result.the-variants.{Ok, Err}
 use Rattle.std.proofs.shelf.Lists.{drop-all, drop-drop, length-drop, take-more-set, length-take-le, drop-set-lt}
 use Rattle.std.proofs.shelf.Tests.{cond-true, cond-false, lt-ltb, le-ltb, eq-eqb, ne-eqb}
@@ -19,8 +18,8 @@ use Rattle.model.specs.declared.nodes.Entry.{Entry}
 use Rattle.model.specs.declared.faults.ReadFault.{ReadFault}
 use Rattle.model.specs.declared.faults.ReadFault.the-variants.{WrongLine, Misplaced, AfterEnd, EndsEarly, TooManyNodes}
 use Rattle.model.specs.Kinds.{Grammar, allowed, child-sorts}
-use Rattle.model.specs.Fields.{Form, pieces}
-use Rattle.model.specs.Reading.{TextLine, begins, longer, lines, of-fields, read-line, heading, Read-out, with-entry, read-lines}
+use Rattle.model.specs.Fields.{Form}
+use Rattle.model.specs.Reading.{TextLine, begins, longer, lines, read-line, heading, Read-out, with-entry, read-lines}
 use Rattle.script.specs.Cuts.{before}
 use Rattle.script.specs.LineReads.{entry-of}
 use Rattle.script.specs.Reads.{first-entry, rest-read, with-front, count-of, In-row, Returned}

@@ -13,7 +13,6 @@ use Rattle.std.specs.declared.result.Result.the-variants.{Ok, Err}
 use Rattle.std.proofs.shelf.Lists.{take-at}
 use Rattle.std.proofs.shelf.Tests.{le-leb, lt-leb}
 use Rattle.model.specs.declared.kinds.Sort.the-variants.{Root}
-use Rattle.model.specs.declared.nodes.Node.{Node}
 use Rattle.model.specs.declared.nodes.Entry.{Entry}
 use Rattle.model.specs.declared.faults.ReadFault.{ReadFault}
 use Rattle.model.specs.declared.faults.ReadFault.the-variants.{TooLong}
@@ -27,7 +26,7 @@ use Rattle.model.specs.Reading.{Read-out, lines, read-lines, read, read-into, c
 use Rattle.model.specs.Writing.{write, write-draft}
 use Rattle.model.specs.Fitting.{Program, DraftProgram}
 use Rattle.laws.proofs.RoundTrips.{round-trips, draft-round-trips, length-nodes}
-use Rattle.script.specs.Reads.{rest-read, count-of, In-row, Returned, Filled}
+use Rattle.script.specs.Reads.{rest-read, In-row, Returned, Filled}
 use Rattle.script.specs.Trips.{Read-back, Draft-back}
 
 abbrev Into : Type 0

@@ -7,11 +7,9 @@ use native.Mathlib.Omega.{arith}
 use lib.Dec.{leb}
 use lib.ListN.{length, getD, set, take, replicate}
 use Rattle.std.proofs.shelf.Lists.{take-more, take-more-set}
-use Rattle.std.proofs.shelf.Tests.{leb-true}
 use Rattle.model.specs.declared.kinds.Kind.{Kind}
 use Rattle.model.specs.declared.kinds.Sort.{Sort}
 use Rattle.model.specs.declared.kinds.Children.{Children as CodeChildren}
-use Rattle.model.specs.declared.kinds.Children.the-variants.{Exactly, AsMany}
 use Rattle.model.specs.declared.kinds.KindRow.{KindRow}
 use Rattle.model.specs.Kinds.{Children, exactly, as-many, row, sorts-below, child-sorts}
 use Rattle.model.specs.Table.{RowOf, shown, shown-children, row-of}

@@ -1,7 +1,7 @@
 -- The three ways out of a write, and what is read of the buffer then.
 use mathlib.Core.Path.{_≡_, sym, ap, _∙_}
 use mathlib.Core.Bool.{Bool, true, false}
-use mathlib.Core.List.{List, [], _∷_, _++_}
+use mathlib.Core.List.{List, _++_}
 use Prim.Native.Nat.{ℕ, _+_, _<_, _≤_}
 use native.Mathlib.Omega.{arith}
 use lib.Dec.{leb}
@@ -10,7 +10,6 @@ use Rattle.std.specs.declared.result.Result.{Result}
 use Rattle.std.specs.declared.result.Result.the-variants.{Ok, Err}
 use Rattle.std.proofs.shelf.Lists.{take-at}
 use Rattle.std.proofs.shelf.Tests.{le-leb, lt-leb}
-use Rattle.model.specs.declared.nodes.Node.{Node}
 use Rattle.model.specs.declared.nodes.Entry.{Entry}
 use Rattle.model.specs.declared.faults.ReadFault.the-variants.{TooManyNodes}
 use Rattle.model.specs.declared.faults.TextFault.{TextFault}
@@ -19,7 +18,7 @@ use Rattle.model.specs.Kinds.{Grammar}
 use Rattle.model.specs.Names.{nodes}
 use Rattle.model.specs.Fields.{plain}
 use Rattle.model.specs.Reading.{read-plain}
-use Rattle.model.specs.Writing.{write-lines, write, fitting, write-into, buffer-after}
+use Rattle.model.specs.Writing.{write-lines, write, fitting, write-into}
 use Rattle.model.specs.Fitting.{Program}
 use Rattle.laws.proofs.RoundTrips.{round-trips, length-nodes}
 use Rattle.script.specs.Buffers.{pasted}

@@ -1,8 +1,7 @@
 // The fields of a line.
 ghost use mathlib.Core.Path.{_≡_};
 ghost use mathlib.Core.Bool.{true, not};
-ghost use mathlib.Core.List.{[], _∷_, _++_};
-ghost use Prim.Native.Nat.{ℕ, _+_, _-_, _*_, _<_, _≤_};
+ghost use Prim.Native.Nat.{_+_, _-_, _*_, _<_, _≤_};
 ghost use lib.ListN.{length, drop};
 ghost use Rattle.std.specs.shelf.Text.{allDigits};
 ghost use Rattle.model.specs.Lists.{any};
@@ -93,16 +92,10 @@ fn all_characters(rest: &[u8]) -> bool
 fn is_stem(stem: &[u8]) -> bool
     ensures { λ r. ⌜ r ≡ stem-form (now (stem .entry)) ⌝ }
 {
-    if stem.is_empty() || stem.len() > 8 {
-        return false;
+    match stem {
+        [b'a'..=b'z', rest @ ..] => rest.len() <= 7 && all_characters(rest),
+        _ => false,
     }
-    if stem[0] < b'a' {
-        return false;
-    }
-    if stem[0] > b'z' {
-        return false;
-    }
-    all_characters(&stem[1..])
 }
 
 // Zeros after the characters.
@@ -166,20 +159,10 @@ fn private(rest: &[u8]) -> Option<Origin>
 pub fn origin(field: &[u8]) -> Option<Origin>
     ensures { λ r. ⌜ r ≡ origin-field (now (field .entry)) ⌝ }
 {
-    if field.is_empty() {
-        return None;
+    match field {
+        [b's', rest @ ..] => copied(rest),
+        [b'p', rest @ ..] => private(rest),
+        [b'o'] => Some(Origin::Outer),
+        _ => None,
     }
-    if field[0] == b's' {
-        return copied(&field[1..]);
-    }
-    if field[0] == b'p' {
-        return private(&field[1..]);
-    }
-    if field[0] != b'o' {
-        return None;
-    }
-    if field.len() != 1 {
-        return None;
-    }
-    Some(Origin::Outer)
 }

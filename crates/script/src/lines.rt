@@ -1,6 +1,6 @@
 // One line of a text.
 ghost use mathlib.Core.Path.{_≡_};
-ghost use Prim.Native.Nat.{ℕ, _+_, _≤_};
+ghost use Prim.Native.Nat.{_+_, _≤_};
 ghost use lib.ListN.{length, drop};
 ghost use Rattle.script.specs.LineReads.{Next-end, Field-read, name-from, number-from, origin-from, origin-wanted, fields-from, entry-of};
 ghost use Rattle.script.specs.Forms.{form-of};

@@ -1,6 +1,6 @@
 // What there is to say of a text: how many nodes of a kind, and which line a number means.
 ghost use mathlib.Core.Path.{_≡_};
-ghost use Prim.Native.Nat.{ℕ, _≤_};
+ghost use Prim.Native.Nat.{_≤_};
 ghost use lib.ListN.{length, getD, drop};
 ghost use Rattle.model.specs.Reading.{lines};
 ghost use Rattle.script.specs.Summaries.{of-kind, no-line};

@@ -1,12 +1,5 @@
-use mathlib.Core.Path.{_≡_, sym, ap, subst, _∙_}
-use Prim.Native.Nat.{ℕ}
-use Rattle.std.specs.declared.result.Result.{Result}
-use Rattle.std.specs.declared.result.Result.the-variants.{Ok, Err}
 use Rattle.std.proofs.shelf.Results.{err-from-errBy}
-use Rattle.model.specs.declared.faults.TextFault.{TextFault}
-use Rattle.model.specs.Reading.{read-into}
 use Rattle.script.specs.Forms.{form-of}
-use Rattle.script.specs.Reads.{Filled}
 use Rattle.script.proofs.Readings.{row-short, text-long, lines-read, lines-refused}
 use Rattle.script.proofs.reader.fill_row.Needs as need
 

@@ -1,12 +1,9 @@
-use mathlib.Core.Path.{_≡_, refl, sym, ap, _∙_}
-use mathlib.Core.List.{List}
-use Prim.Native.Nat.{_<_, _≤_}
+use mathlib.Core.Path.{refl, sym, _∙_}
+use Prim.Native.Nat.{_<_}
 use native.Mathlib.Omega.{arith}
-use lib.ListN.{length}
-use Rattle.model.specs.declared.kinds.Sort.{Sort}
 use Rattle.script.specs.Forms.{form-of}
 use Rattle.script.specs.Runs.{stacked, to-come}
-use Rattle.script.proofs.ReadParts.{Comes, comes, front-start, rest-kept, after-end, ends-early, all-read, too-many, wrong-line, misplaced, turned}
+use Rattle.script.proofs.ReadParts.{comes, front-start, rest-kept, after-end, ends-early, all-read, too-many, wrong-line, misplaced, turned}
 use Rattle.script.proofs.reader.read_lines.Needs as need
 
 pub loop-from-holds : need.loop-from-holds
