@@ -8,6 +8,7 @@ use Rattle.std.specs.declared.option.Option.{Option}
 use Rattle.std.specs.declared.option.Option.the-variants.{Some, None}
 use Rattle.std.specs.declared.result.Result.{Result}
 use Rattle.std.specs.declared.result.Result.the-variants.{Ok, Err}
+use Rattle.model.specs.declared.faults.DraftFault.{DraftFault}
 use Rattle.model.specs.declared.faults.SessionFault.{SessionFault}
 use Rattle.model.specs.declared.faults.SessionFault.the-variants.{Read, Repair, NoProgram, TooShort, NoSuch}
 use Rattle.model.specs.declared.answers.Told.{Told}
@@ -51,13 +52,12 @@ stepping w b n entries words =
     with-program b (λ _. elim (w .stages n) [ None ↦ Err (NoSuch n) | Some s ↦ with-rows entries words (λ _. raised from-draft (run s b)) ])
 
 -- the draft as given, under repair, from the book's program
-abbrev pub adopted : Language → Book → Draft → Result Ran SessionFault
-adopted l b d =
-    and-then (raised from-draft (mended-in l (source-of (l .visible) (b .program)) d)) (λ r. Ok (ran b r))
+abbrev pub adopted : Language → Book → Draft → Result Ran DraftFault
+adopted l b d = and-then (mended-in l (source-of (l .visible) (b .program)) d) (λ r. Ok (ran b r))
 
 abbrev pub adopting : World → Book → List ℕ → ℕ → ℕ → Result Ran SessionFault
 adopting w b text entries words =
-    with-program b (λ _. with-rows entries words (λ _. and-then (raised Read (read-draft (w .language .grammar) text)) (adopted (w .language) b)))
+    with-program b (λ _. with-rows entries words (λ _. and-then (raised Read (read-draft (w .language .grammar) text)) (λ d. raised from-draft (adopted (w .language) b d))))
 
 abbrev pub told : World → Book → ℕ → Told
 told w b i =

@@ -91,10 +91,15 @@ pub record Keeps-transformation (t : Transformation) : Type 0 where
   -- of alike programs it makes agreeing drafts, or refuses both alike
   pub law : (p q : List Node) → Program (t .source .grammar) p → Program (t .source .grammar) q → Alike (t .source .visible) p q → Agreeing (source-of (t .source .visible) p) (drafted t p) (drafted t q)
 
--- in a session of that language; in a row, one's target is the other's source
+-- in a session of that language
 abbrev pub Keeps-stage : Language → Stage → Type 0
 Keeps-stage l (under-repair t) = Part (t .source) l × Part (t .target) l × Keeps-transformation t
-Keeps-stage l (in-row s t) = Keeps-stage l s × Keeps-stage l t × (last-target s ≡ first-source t)
+Keeps-stage l (in-row s t) = Keeps-stage l s × Keeps-stage l t
+
+-- in a row, one's target is the other's source
+abbrev pub Fits-in-row : Stage → Type 0
+Fits-in-row (under-repair t) = Unit {0}
+Fits-in-row (in-row s t) = Fits-in-row s × Fits-in-row t × (last-target s ≡ first-source t)
 
 -- languages and transformations that keep the rules, with one grammar and one visible order for each root
 pub record Keeps (w : World) : Type 0 where
