@@ -1,5 +1,5 @@
 -- Plans: a draft before its names are spelled. They depend on kinds, numbers and nesting alone.
-use mathlib.Core.Bool.{cond}
+use mathlib.Core.Bool.{Bool, true, false, cond}
 use mathlib.Core.List.{List, map}
 use Prim.Native.Nat.{ℕ}
 use Prim.Native.String.{String}
@@ -39,9 +39,14 @@ counted k n = record { kind = k; number = n; naming = nameless }
 abbrev pub named : Kind → Naming → Planned
 named k a = record { kind = k; number = 0; naming = a }
 
+-- the name of node i, where it has one
+abbrev pub own-name : Bool → ℕ → Naming
+own-name true i = like i
+own-name false i = nameless
+
 -- node i as it is
 abbrev pub copy : ℕ → Node → Planned
-copy i n = record { kind = n .kind; number = n .number; naming = like i }
+copy i n = record { kind = n .kind; number = n .number; naming = own-name (has-name (n .kind)) i }
 
 abbrev pub spelled : List Node → Naming → Name
 spelled p nameless = no-name
