@@ -107,5 +107,11 @@ Unservable-drafts =
     refusals (answers (loads "tree/let a/num 1/put/ref a/end/" ∷ adopts "flat 1/emit/ref a s4/" ∷ adopts "tree/let a o/num 1/end/" ∷ []))
     ≡ (12, 2) ∷ (11, 1) ∷ []
 
+-- two captors of one stem: the one with the lower name has the first mark
+abbrev Two-captors : Type 0
+Two-captors =
+    written (loads "tree/let a/num 1/put/ref a/put/ref a/end/" ∷ adopts "tree/let a s1/num 1/put/bind a p0/num 2/ref a s4/put/bind a p1/num 3/ref a s6/end/" ∷ [])
+    ≡ text "tree/let a/num 1/put/bind a'1/num 2/ref a/put/bind a'2/num 3/ref a/end/"
+
 abbrev pub Worked : Type 0
-Worked = Swell-lowered × Swell-flattened × Two-fields × Empty-text × Three-lets × Datum-kept × Empty-card × Unservable-drafts
+Worked = Swell-lowered × Swell-flattened × Two-fields × Empty-text × Three-lets × Datum-kept × Empty-card × Unservable-drafts × Two-captors

@@ -6,4 +6,4 @@ use Rattle.model.proofs.worked_scripts.Needs as need
 
 pub returns : need.returns
 unfolding digits kind-of
-returns c = ((refl, refl), refl, (refl, refl), refl, (refl, refl), refl, (refl, refl), refl)
+returns c = ((refl, refl), refl, (refl, refl), refl, (refl, refl), refl, (refl, refl), refl, refl)
