@@ -4,6 +4,8 @@ use model::faults::TextFault;
 use model::grammar::ByRoot;
 use model::grammar::RootGrammar;
 use model::nodes::Entry;
+use script::reader::LONGEST_TEXT;
+use script::reader::MOST_NODES;
 use script::reader::read;
 use script::writer::write;
 use std::error::AnyError;
@@ -32,8 +34,8 @@ fn repeat(
 
 pub fn load(rt: &LibcRuntime, file: &str, count: u64) -> Result<(), AnyError> {
     let text = lines::read_file(rt, file)?;
-    let mut row = vec![in rt.alloc(); Entry::UNUSED; 1024]?;
-    let mut buffer = vec![in rt.alloc(); 0u8; 32768]?;
+    let mut row = vec![in rt.alloc(); Entry::UNUSED; MOST_NODES]?;
+    let mut buffer = vec![in rt.alloc(); 0u8; LONGEST_TEXT]?;
     let start = Instant::now(rt)?;
     let result = repeat(count, &text, &mut row, &mut buffer);
     let spent = start.elapsed(rt)?.as_nanos();

@@ -4,6 +4,7 @@ use model::grammar::ByRoot;
 use model::grammar::RootGrammar;
 use model::kinds::all_kinds;
 use model::nodes::Entry;
+use script::reader::MOST_NODES;
 use script::reader::read;
 use script::summary::count_kind;
 use std::error::AnyError;
@@ -21,7 +22,7 @@ fn print_kinds(rt: &LibcRuntime, program: &[Entry]) -> Result<(), AnyError> {
 
 pub fn run(rt: &LibcRuntime, file: &str) -> Result<(), AnyError> {
     let text = lines::read_file(rt, file)?;
-    let mut row = vec![in rt.alloc(); Entry::UNUSED; 1024]?;
+    let mut row = vec![in rt.alloc(); Entry::UNUSED; MOST_NODES]?;
     match read::<ByRoot>(&text, &mut row) {
         Ok(count) => {
             println!(rt, "load ok {count}")?;

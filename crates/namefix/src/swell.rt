@@ -3,6 +3,7 @@ use crate::lines;
 use model::grammar::ByRoot;
 use model::grammar::RootGrammar;
 use model::nodes::Entry;
+use script::reader::MOST_NODES;
 use script::reader::read;
 use script::writer::write;
 use std::error::AnyError;
@@ -20,7 +21,7 @@ ref\tswell
 pub fn run(rt: &LibcRuntime) -> Result<(), AnyError> {
     let text = CARD.as_bytes();
     print!(rt, "The swell card, one node a line:\n\n{CARD}\n")?;
-    let mut row = vec![in rt.alloc(); Entry::UNUSED; 1024]?;
+    let mut row = vec![in rt.alloc(); Entry::UNUSED; MOST_NODES]?;
     let mut buffer = [0u8; 256];
     let count = match read::<ByRoot>(text, &mut row) {
         Ok(count) => count,

@@ -88,12 +88,15 @@ fn all_characters(rest: &[u8]) -> bool
     true
 }
 
+// As many characters as a stem has at most.
+const LONGEST_STEM: usize = 8;
+
 // 1 to 8 characters, a to z first, then a to z or 0 to 9.
 fn is_stem(stem: &[u8]) -> bool
     ensures { λ r. ⌜ r ≡ stem-form (now (stem .entry)) ⌝ }
 {
     match stem {
-        [b'a'..=b'z', rest @ ..] => rest.len() <= 7 && all_characters(rest),
+        [b'a'..=b'z', rest @ ..] => rest.len() < LONGEST_STEM && all_characters(rest),
         _ => false,
     }
 }

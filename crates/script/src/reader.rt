@@ -29,6 +29,12 @@ use model::kinds::Sort;
 use model::nodes::Entry;
 use model::nodes::clear_row;
 
+// As many nodes as a program has at most, and places as a row has at least.
+pub const MOST_NODES: usize = 1024;
+
+// As many bytes as a text has at most.
+pub const LONGEST_TEXT: usize = 32768;
+
 // The entry of a line, and where the next line begins.
 #[derive(Clone, Copy)]
 struct LineAt {
@@ -81,7 +87,7 @@ fn read_lines<G: Grammar>(form: Form, text: &[u8], row: &mut [Entry]) -> Result<
         if height == 0 {
             return Err(ReadFault::AfterEnd(count));
         }
-        if count == 1024 {
+        if count == MOST_NODES {
             return Err(ReadFault::TooManyNodes);
         }
         let Some(line) = line_at(form, text, from) else {
@@ -110,10 +116,10 @@ fn read_lines<G: Grammar>(form: Form, text: &[u8], row: &mut [Entry]) -> Result<
 fn fill_row<G: Grammar>(form: Form, text: &[u8], row: &mut [Entry]) -> Result<usize, TextFault>
     ensures { λ r. ⌜ Filled (read-into (G·Grammar .grammar) (form-of form) (now (text .entry)) (length (now (row .entry)))) r (now (row .entry)) (now (row .exit)) ⌝ }
 {
-    if row.len() < 1024 {
+    if row.len() < MOST_NODES {
         return Err(TextFault::TooShort(0));
     }
-    if text.len() > 32768 {
+    if text.len() > LONGEST_TEXT {
         return Err(TextFault::Read(ReadFault::TooLong));
     }
     let count = read_lines::<G>(form, text, row)?;

@@ -12,6 +12,7 @@ use crate::buffers::number_length;
 use crate::buffers::put_byte;
 use crate::buffers::put_bytes;
 use crate::buffers::put_number;
+use crate::reader::MOST_NODES;
 use model::faults::ReadFault;
 use model::faults::TextFault;
 use model::kinds::Role;
@@ -179,7 +180,7 @@ pub fn write(program: &[Entry], buffer: &mut [u8]) -> Result<usize, TextFault>
     ensures back { λ r. ⌜ Write-back (nodes (now (program .entry))) r (now (buffer .exit)) ⌝ }
     ensures within { λ r. ⌜ made r (λ n. n ≤ length (now (buffer .exit))) ⌝ }
 {
-    if program.len() > 1024 {
+    if program.len() > MOST_NODES {
         return Err(TextFault::Read(ReadFault::TooManyNodes));
     }
     let needed = text_length(program);

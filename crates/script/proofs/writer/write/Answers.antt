@@ -10,20 +10,20 @@ use Rattle.model.specs.Writing.{measured, buffer-after}
 use Rattle.script.proofs.Writes.{write-many, write-short, write-fits, front-pasted, written-back}
 use Rattle.script.proofs.writer.write.Needs as need
 
-pub returns-then-program-gt1024 : need.returns-then-program-gt1024
-returns-then-program-gt1024 c =
-    let e = sym (write-many (c .args .program .now) (length (c .args .buffer .now)) (c .if-program-gt1024 .taken)) in
+pub returns-then-program-gt-MOST-NODES : need.returns-then-program-gt-MOST-NODES
+returns-then-program-gt-MOST-NODES c =
+    let e = sym (write-many (c .args .program .now) (length (c .args .buffer .now)) (c .if-program-gt-MOST-NODES .taken)) in
     record { value = ap measured e; after = ap (λ (w : Result (List ℕ) TextFault). buffer-after w (c .args .buffer .now)) e; back = tt; within = tt }
 
 pub returns-then-needed-buffer : need.returns-then-needed-buffer
 returns-then-needed-buffer c =
-    let e = sym (write-short (c .args .program .now) (length (c .args .buffer .now)) (c .text-length-needed .result) (c .if-program-gt1024 .left) (c .text-length-needed .ensures) (c .if-needed-buffer .taken)) in
+    let e = sym (write-short (c .args .program .now) (length (c .args .buffer .now)) (c .text-length-needed .result) (c .if-program-gt-MOST-NODES .left) (c .text-length-needed .ensures) (c .if-needed-buffer .taken)) in
     record { value = ap measured e; after = ap (λ (w : Result (List ℕ) TextFault). buffer-after w (c .args .buffer .now)) e; back = tt; within = tt }
 
 pub returns : need.returns
 returns c =
     let d = c .args .buffer .now in
-    let e = sym (write-fits (c .args .program .now) (length d) (c .if-program-gt1024 .left) (omega (arith, c .text-length-needed .ensures, c .if-needed-buffer .left))) in
+    let e = sym (write-fits (c .args .program .now) (length d) (c .if-program-gt-MOST-NODES .left) (omega (arith, c .text-length-needed .ensures, c .if-needed-buffer .left))) in
     record {
       value = ap {B = Result ℕ TextFault} Ok (c .put-lines .ensures .end) ∙ ap measured e;
       after = c .put-lines .ensures .after ∙ (front-pasted _ d ∙ ap (λ (w : Result (List ℕ) TextFault). buffer-after w d) e);
