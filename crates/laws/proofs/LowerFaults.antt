@@ -28,7 +28,7 @@ use Rattle.model.specs.Fitting.{Of}
 use Rattle.model.specs.Forest.{Forest, nil, tree, first, after, beside, grow, pre, size, width, children, kinds-only, shape}
 use Rattle.model.specs.Scopes.{more, by-role, scopes-its-last, tree-nodes, tree-scopes, card-lines, card-scopes, card-order}
 use Rattle.model.specs.Classes.{Source, source-of, reach-at, Class, of-declaration, of-group, class-of, together, is-inner}
-use Rattle.model.specs.Plans.{like, Planned, Plan, named, copy, spell, own-name}
+use Rattle.model.specs.Plans.{like, Planned, Plan, named, copy, spell}
 use Rattle.model.specs.Lower.{Turn, bound-first, above-datum, as-it-is, turn, lowered-node, lowered, reads, head-reads, joined, Line-turn, let-field, let-def, put-out, line-turn, fields-after, lowered-line, lowered-lines, lower-plan, lower-draft, lower}
 use Rattle.model.specs.Rules.{Visible}
 use Rattle.model.proofs.KindTables.{by-table}

@@ -88,7 +88,7 @@ module _ (order : Order) (vis : Visible order) (p : List Node) where
       let c : declares (kind-at p d) ≡ true = ap declares (sym (shape-kind p d)) ∙ (ap (λ e. declares (kind-in (shape p) e)) (sym (f .there)) ∙ vis .declarations (shape p) i (f .place) (f .within)) in
       record { declaration = c; itself = reaches-itself d c; spelled = f .passes; place = f .place; within = f .within; seen = f .there; first = f .first }
 
-  reach-is : (i : ℕ) → Reach order p i (reach order p i)
+  pub reach-is : (i : ℕ) → Reach order p i (reach order p i)
   reach-is i = reach-of i (reach order p i) (finding (λ d. alike (name-at p i) (name-at p d)) (order (shape p) i))
 
   within-reaches : (i : ℕ) → i < length p → getD (reaches order p) i None ≡ reach order p i

@@ -11,7 +11,7 @@ use Rattle.model.specs.Names.{nodes}
 use Rattle.model.specs.Fitting.{Of, Program}
 use Rattle.model.specs.Forest.{shape}
 use Rattle.model.specs.Scopes.{Language}
-use Rattle.model.specs.Classes.{Draft, Source, source-of, classes}
+use Rattle.model.specs.Classes.{Draft, source-of, classes}
 use Rattle.model.specs.Checks.{fault}
 use Rattle.model.specs.Stages.{Transformation, repairing, foreign, Stage}
 use Rattle.model.specs.Lower.{lower}

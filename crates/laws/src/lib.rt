@@ -3,7 +3,7 @@ ghost use Rattle.model.specs.Kinds.{Grammar as Kinds-allowed};
 ghost use Rattle.laws.specs.RoundTrips.{Round-trips, Draft-round-trips, Written-is-short, Draft-written-is-short};
 ghost use Rattle.laws.specs.Forests.{Forest-laws};
 ghost use Rattle.laws.specs.Orders.{Orders-visible, Languages-parts, Reaches-lawful};
-ghost use Rattle.laws.specs.Stages.{Stage-laws, Foreign-lawful, Standard-keeps, Drafts-unfaulted};
+ghost use Rattle.laws.specs.Stages.{Stage-laws, Foreign-lawful, Drafts-unfaulted};
 ghost use Rattle.laws.specs.Walks.{Walk-laws, Walk-steps};
 
 // Texts
@@ -61,11 +61,6 @@ pub fn foreign_lawful()
 // Of no program of its source is the draft of lower or flatten refused with 9, 10, 11 or 12.
 pub fn drafts_unfaulted()
     ensures { λ _. ⌜ Drafts-unfaulted ⌝ }
-{}
-
-// The three standard stages and the language by the root keep the rules.
-pub fn standard_keeps()
-    ensures { λ _. ⌜ Standard-keeps ⌝ }
 {}
 
 // Rows of nodes, tree by tree

@@ -1,0 +1,4 @@
+pub mod Rounds
+pub mod Reaching
+pub mod Staging
+pub mod Holds
