@@ -14,7 +14,7 @@ use Rattle.std.proofs.shelf.Tests.{cond-true, cond-both, not-from-false, cases-
 use Rattle.std.proofs.shelf.Lists.{getD-map}
 use Rattle.laws.proofs.Reaches.{counting-at, length-counting}
 use Rattle.promise.proofs.Frame.{first, least, count, any as below}
-use Rattle.promise.proofs.FrameTests.{from-false, any-some, any-at, count-all, pigeons, least-stuck}
+use Rattle.promise.proofs.FrameTests.{from-false, any-some, any-at, count-all, pigeons, least-stuck, least-from, least-below}
 use Rattle.model.specs.Lists.{or-else, keep, any, first-with, counting, places}
 use Rattle.model.specs.Repair.{unused}
 use Rattle.laws.proofs.Pieces.{none-some}
@@ -184,19 +184,36 @@ unfolding least
 least-most p zero m = omega arith
 least-most p (suc k) m = let h = least-most p k (m + 1) in cond-both (p m) (least p k (m + 1)) m (λ x. x ≤ m + suc k) (λ _. omega arith) (λ _. omega arith)
 
--- the smallest unused mark is the least that fails the test of being in use
-pub unused-least : (used : List ℕ) (p : ℕ → Bool) → ((m : ℕ) → any (eqb m) used ≡ p m) → (n : ℕ) → length used ≤ n → unused used ≡ least p n 1
-unused-least used p h n l =
+-- of one more than are in use, one is not
+least-free : (used : List ℕ) (p : ℕ → Bool) → ((m : ℕ) → any (eqb m) used ≡ p m) → p (least p (length used) 1) ≡ false
+least-free used p h =
     let k = length used in
-    let free : p (least p k 1) ≡ false = from-false _ (λ t. absurd (omega (
+    from-false _ (λ t. absurd (omega (
       arith,
       count-all (λ _. true) k,
       pigeons k (λ i. getD used i 0) (k + 1) (λ _. true) (λ m a b.
           let (i, li, e) = any-in (eqb m) used 0 (h m ∙ least-stuck p k 1 t m a (omega arith)) in
           (i, li, refl, sym (eqb-true m (getD used i 0) e))),
-    ))) in
+    )))
+
+-- the smallest unused mark is the least that fails the test of being in use
+pub unused-least : (used : List ℕ) (p : ℕ → Bool) → ((m : ℕ) → any (eqb m) used ≡ p m) → (n : ℕ) → length used ≤ n → unused used ≡ least p n 1
+unused-least used p h n l =
+    let k = length used in
+    let free = least-free used p h in
     ap (or-else 0) (first-same _ _ (counting 1 (k + 1)) (λ m. ap not (h m)) ∙ ap (λ j. first-with (λ m. not (p m)) (counting 1 j)) (add-one k) ∙ first-least p k 1 free)
     ∙ sym (least-more p k n 1 l free)
+
+-- it is from 1 on, not in use, and each smaller one from 1 on is
+pub unused-is : (used : List ℕ) → (1 ≤ unused used) × (any (eqb (unused used)) used ≡ false) × ((m : ℕ) → 1 ≤ m → m < unused used → any (eqb m) used ≡ true)
+unused-is used =
+    let p : ℕ → Bool = λ m. any (eqb m) used in
+    let e = unused-least used p (λ _. refl) (length used) (omega arith) in
+    let from = least-from p (length used) 1 in (
+      omega arith,
+      ap p e ∙ least-free used p (λ _. refl),
+      λ m l h. least-below p (length used) 1 m l (omega arith),
+    )
 
 pub unused-most : (used : List ℕ) → unused used ≤ length used + 1
 unused-most used =

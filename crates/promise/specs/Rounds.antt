@@ -2,11 +2,13 @@
 use mathlib.Core.Path.{_≡_}
 use mathlib.Core.Bool.{Bool, true, false, _&&_}
 use mathlib.Core.List.{List, _∷_, _++_}
-use Prim.Native.Nat.{ℕ, _+_, _≤_}
+use Prim.Native.Nat.{ℕ, _+_, _≤_, _<_}
+use lib.Dec.{eqb}
 use lib.ListN.{length, getD}
 use Rattle.std.specs.Options.{isSome}
 use Rattle.std.specs.declared.option.Option.{Option}
 use Rattle.std.specs.declared.option.Option.the-variants.{None}
+use Rattle.model.specs.declared.nodes.Name.{Name}
 use Rattle.model.specs.declared.nodes.Node.{Node}
 use Rattle.model.specs.Lists.{keep, any, places}
 use Rattle.model.specs.Kinds.{has-name, declares}
@@ -14,7 +16,7 @@ use Rattle.model.specs.Names.{name-at, kind-at}
 use Rattle.model.specs.Forest.{shape}
 use Rattle.model.specs.Scopes.{Order}
 use Rattle.model.specs.Classes.{Class, together, is-outer}
-use Rattle.model.specs.Repair.{leads, classes-reached, captures, captors, fresh, respell-all, round, Repairs, repair}
+use Rattle.model.specs.Repair.{leads, classes-reached, captures, captors, marks, fresh, respell-all, round, Repairs, repair}
 use Rattle.model.specs.Rules.{kinds-of, numbers-of, Visible}
 
 -- a class for each name of the program, and none for a node without a name
@@ -29,6 +31,16 @@ One-spelling cs p = (i j : ℕ) → together (getD cs i None) (getD cs j None) �
 -- no declaration is of outer class
 abbrev pub No-outer : List (Option Class) → List Node → Type 0
 No-outer cs p = (d : ℕ) → declares (kind-at p d) ≡ true → is-outer (getD cs d None) ≡ false
+
+-- a fresh spelling has the stem, and the smallest mark from 1 that no name has with it
+pub record Fresh (a : Name) (p : List Node) : Type 0 where
+  pub stem : fresh a p .stem ≡ a .stem
+  pub from-one : 1 ≤ fresh a p .mark
+  pub not-in-use : any (eqb (fresh a p .mark)) (marks a p) ≡ false
+  pub smallest : (m : ℕ) → 1 ≤ m → m < fresh a p .mark → any (eqb m) (marks a p) ≡ true
+
+abbrev pub Fresh-spelling : Type 0
+Fresh-spelling = (a : Name) (p : List Node) → Fresh a p
 
 -- The rounds, by a visible order that keeps its laws, over a program with its classes
 

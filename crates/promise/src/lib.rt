@@ -1,9 +1,14 @@
 // The laws of the repair, and the promise, over every language and every transformation that keeps the rules: each function's contract is one theorem.
 
-ghost use Rattle.promise.specs.Rounds.{Round-keeps, Respelled-once, Repair-ends, Marks-small};
+ghost use Rattle.promise.specs.Rounds.{Fresh-spelling, Round-keeps, Respelled-once, Repair-ends, Marks-small};
 ghost use Rattle.promise.specs.Reaching.{Mended-reaches, Mended-again};
 ghost use Rattle.promise.specs.Staging.{Repaired-keeps, Foreign-adopted};
 ghost use Rattle.promise.specs.Holds.{Promise-holds};
+
+// A fresh spelling has the stem, and the smallest mark from 1 that no name has with it.
+pub fn fresh_spelling()
+    ensures { λ _. ⌜ Fresh-spelling ⌝ }
+{}
 
 // A round keeps kinds, numbers, stems, one spelling to a class, and the names of outer classes.
 pub fn round_keeps()
