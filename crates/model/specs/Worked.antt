@@ -101,11 +101,11 @@ Empty-card =
     (answers (loads "card 0/" ∷ steps 1 ∷ []) ≡ Loaded 1 ∷ Ran 2 0 ∷ [])
     × (written (loads "card 0/" ∷ steps 1 ∷ []) ≡ text "tree/end/")
 
--- drafts that no respelling serves
-abbrev Unservable-drafts : Type 0
-Unservable-drafts =
-    refusals (answers (loads "tree/let a/num 1/put/ref a/end/" ∷ adopts "flat 1/emit/ref a s4/" ∷ adopts "tree/let a o/num 1/end/" ∷ []))
-    ≡ (12, 2) ∷ (11, 1) ∷ []
+-- a draft that copies from a node without a name, one that spells a class in two ways, and two that no respelling serves
+abbrev Refused-drafts : Type 0
+Refused-drafts =
+    refusals (answers (loads "tree/let a/num 1/put/ref a/end/" ∷ adopts "tree/let a s2/num 1/end/" ∷ adopts "tree/let a s1/num 1/put/ref b s4/end/" ∷ adopts "flat 1/emit/ref a s4/" ∷ adopts "tree/let a o/num 1/end/" ∷ []))
+    ≡ (9, 1) ∷ (10, 4) ∷ (12, 2) ∷ (11, 1) ∷ []
 
 -- two captors of one stem: the one with the lower name has the first mark
 abbrev Two-captors : Type 0
@@ -114,4 +114,4 @@ Two-captors =
     ≡ text "tree/let a/num 1/put/bind a'1/num 2/ref a/put/bind a'2/num 3/ref a/end/"
 
 abbrev pub Worked : Type 0
-Worked = Swell-lowered × Swell-flattened × Two-fields × Empty-text × Three-lets × Datum-kept × Empty-card × Unservable-drafts × Two-captors
+Worked = Swell-lowered × Swell-flattened × Two-fields × Empty-text × Three-lets × Datum-kept × Empty-card × Refused-drafts × Two-captors
