@@ -32,7 +32,7 @@ use Rattle.laws.proofs.NamesRead.{alike-same}
 use Rattle.laws.proofs.RoundTrips.{length-nodes}
 use Rattle.laws.proofs.Forests.{same-shape}
 use Rattle.laws.proofs.Reaches.{shape-kind, same-kinds, reaches-itself}
-use Rattle.promise.specs.Rounds.{Classed, One-spelling, No-outer}
+use Rattle.promise.specs.Rounds.{Classed, One-spelling, No-outer, Drafts-classed}
 use Rattle.promise.specs.Reaching.{home, aim, Reaching}
 use Rattle.promise.proofs.Lists.{any-count-at, first-is, first-none, first-some, any-has}
 use Rattle.promise.proofs.Results.{ok-inj, err-ok}
@@ -128,6 +128,16 @@ module _ (s : Source) (sees : ℕ → List ℕ) (d : Draft) where
           ap (λ n. n .name) (sym (draft-node d k))
           ∙ alike-same _ _ (not-false _ (or-parts (not (spelled-as d k (lowest-of cs k))) _ (⊎-elim (λ x. absurd (both-ways _ x (ap (λ n. has-name (n .kind)) (draft-node d k) ∙ named-class s d k ∙ h))) (λ x. x) (and-cases (has-name (entry-at d k .node .kind)) _ (ten k))) .0))
 
+  -- past check 11 no declaration is of outer class
+  pub no-outer : ((i : ℕ) → outer-declared cs d i ≡ false) → No-outer cs (nodes d)
+  no-outer eleven i h = ⊎-elim
+      (λ x. absurd (both-ways _ x (ap (λ n. kind-declares (n .kind)) (draft-node d i) ∙ h)))
+      (λ x. x)
+      (and-cases (kind-declares (entry-at d i .node .kind)) _ (eleven i))
+
+pub drafts-classed : Drafts-classed
+drafts-classed s d = (draft-classed s d, λ sees h. let C = checked s sees d h in (one-name s sees d (C .ten), no-outer s sees d (C .eleven)))
+
 never : (t : ℕ → Bool) (xs : List ℕ) → ((i : ℕ) → t i ≡ false) → first-with t xs ≡ None
 never t [] h = refl
 never t (x ∷ xs) h = cond-false (t x) _ _ (h x) ∙ never t xs h
@@ -144,12 +154,6 @@ module _ (order : Order) (V : Visible order) (s : Source) (d : Draft) where
   sees = order (shape (nodes d))
 
   module _ (C : Checked s (order (shape (nodes d))) d) where
-    no-outer : No-outer (classes s d) (nodes d)
-    no-outer i h = ⊎-elim
-        (λ x. absurd (both-ways _ x (ap (λ n. kind-declares (n .kind)) (draft-node d i) ∙ h)))
-        (λ x. x)
-        (and-cases (kind-declares (entry-at d i .node .kind)) _ (C .eleven i))
-
     in-sight : (i : ℕ) → is-inner (cls i) ≡ true → (e : ℕ) × (home sees (classes s d) i ≡ Some e)
     in-sight i h = first-some _ (sees i) (not-false _ (⊎-elim (λ x. absurd (both-ways _ x h)) (λ x. x) (and-cases (is-inner (cls i)) _ (C .twelve i))))
 
@@ -163,7 +167,7 @@ module _ (order : Order) (V : Visible order) (s : Source) (d : Draft) where
             let (t, w) = first-is _ (sees i) x h in
             let (k, l, g) = w in
             let dx : kind-declares (kind-at p x) ≡ true = ap kind-declares (sym (shape-kind p x)) ∙ subst (λ y. kind-declares (kind-in (shape p) y) ≡ true) g (V .declarations (shape p) i k l) in
-            absurd (both-ways (is-inner (cls i)) n (not-outer (cls i) (together-some (cls i) (cls x) t .0) (ap is-outer (together-is (cls i) (cls x) t) ∙ no-outer x dx)))
+            absurd (both-ways (is-inner (cls i)) n (not-outer (cls i) (together-some (cls i) (cls x) t .0) (ap is-outer (together-is (cls i) (cls x) t) ∙ no-outer s sees d (C .eleven) x dx)))
 
     pub reaching : Reaching order s d (repair sees (classes s d) p)
     reaching =
@@ -182,7 +186,7 @@ module _ (order : Order) (V : Visible order) (s : Source) (d : Draft) where
           repairs = E .repairs;
           one-spelling = one;
           outer-kept = λ i o.
-              by-visits cs sees (λ q. Same p q × (name-at q i ≡ name-at p i)) (λ q h t. (same-trans (t .0) (round-same cs sees q h), round-outer order V cs p q (same-shape q p (t .0 .kinds) (t .0 .numbers)) h (λ x k. no-outer x (ap kind-declares (same-kinds p q (sym (t .0 .kinds)) x) ∙ k)) i o ∙ t .1)) v f (record { kinds = refl; numbers = refl }, refl) .1 .1;
+              by-visits cs sees (λ q. Same p q × (name-at q i ≡ name-at p i)) (λ q h t. (same-trans (t .0) (round-same cs sees q h), round-outer order V cs p q (same-shape q p (t .0 .kinds) (t .0 .numbers)) h (λ x k. no-outer s sees d (C .eleven) x (ap kind-declares (same-kinds p q (sym (t .0 .kinds)) x) ∙ k)) i o ∙ t .1)) v f (record { kinds = refl; numbers = refl }, refl) .1 .1;
           nameless = λ i n.
               by-visits cs sees (λ q. name-at q i ≡ name-at p i) (λ q h t. round-nameless cs sees q h i (h .named-there i ∙ sym (f .named-there i) ∙ n) ∙ t) v f refl .1;
           reaches = λ i. ap (λ v. reach-by (order v) (m .program) i) sh ∙ settled-reach order V cs p f (m .program) g one e i ∙ go i (is-inner (cls i)) refl;

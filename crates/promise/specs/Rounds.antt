@@ -12,10 +12,11 @@ use Rattle.model.specs.declared.nodes.Name.{Name}
 use Rattle.model.specs.declared.nodes.Node.{Node}
 use Rattle.model.specs.Lists.{keep, any, places}
 use Rattle.model.specs.Kinds.{has-name, declares}
-use Rattle.model.specs.Names.{name-at, kind-at}
+use Rattle.model.specs.Names.{name-at, kind-at, nodes}
 use Rattle.model.specs.Forest.{shape}
 use Rattle.model.specs.Scopes.{Order}
-use Rattle.model.specs.Classes.{Class, together, is-outer}
+use Rattle.model.specs.Classes.{Draft, Source, Class, classes, together, is-outer}
+use Rattle.model.specs.Checks.{fault}
 use Rattle.model.specs.Repair.{leads, classes-reached, captures, captors, marks, fresh, respell-all, round, Repairs, repair}
 use Rattle.model.specs.Rules.{kinds-of, numbers-of, Visible}
 
@@ -41,6 +42,13 @@ pub record Fresh (a : Name) (p : List Node) : Type 0 where
 
 abbrev pub Fresh-spelling : Type 0
 Fresh-spelling = (a : Name) (p : List Node) → Fresh a p
+
+-- every draft has its classes; past the checks each class has one spelling, and no declaration is of outer class
+abbrev pub Drafts-classed : Type 0
+Drafts-classed =
+    (s : Source) (d : Draft)
+    → Classed (classes s d) (nodes d)
+    × ((sees : ℕ → List ℕ) → fault s sees (classes s d) d ≡ None → One-spelling (classes s d) (nodes d) × No-outer (classes s d) (nodes d))
 
 -- The rounds, by a visible order that keeps its laws, over a program with its classes
 

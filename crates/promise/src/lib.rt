@@ -1,6 +1,6 @@
 // The laws of the repair, and the promise, over every language and every transformation that keeps the rules: each function's contract is one theorem.
 
-ghost use Rattle.promise.specs.Rounds.{Fresh-spelling, Round-keeps, Respelled-once, Repair-ends, Marks-small};
+ghost use Rattle.promise.specs.Rounds.{Fresh-spelling, Drafts-classed, Round-keeps, Respelled-once, Repair-ends, Marks-small};
 ghost use Rattle.promise.specs.Reaching.{Mended-reaches, Mended-again};
 ghost use Rattle.promise.specs.Staging.{Repaired-keeps, Foreign-adopted};
 ghost use Rattle.promise.specs.Holds.{Promise-holds};
@@ -8,6 +8,11 @@ ghost use Rattle.promise.specs.Holds.{Promise-holds};
 // A fresh spelling has the stem, and the smallest mark from 1 that no name has with it.
 pub fn fresh_spelling()
     ensures { λ _. ⌜ Fresh-spelling ⌝ }
+{}
+
+// Every draft has what the laws of the rounds ask for: a class for each name, and past the checks one spelling to a class and no outer declaration.
+pub fn drafts_classed()
+    ensures { λ _. ⌜ Drafts-classed ⌝ }
 {}
 
 // A round keeps kinds, numbers, stems, one spelling to a class, and the names of outer classes.
