@@ -79,7 +79,7 @@ Agreeing s (Err f) (Err g) = f ≡ g
 abbrev pub drafted : Transformation → List Node → Result Draft DraftFault
 drafted t p = meaning t (source-of (t .source .visible) p)
 
--- 7 exactly when the root is not of the source, then 8 exactly when the draft is too large: what it refuses by itself is neither
+-- what it refuses by itself is neither 7 nor 8, so its meaning has 7 exactly when the root is not of the source, then 8 exactly when the draft is too large
 abbrev pub Refuses-exactly : Transformation → Type 0
 Refuses-exactly t =
     (p : List Node) (f : DraftFault) → Program (t .source .grammar) p → t .draft (source-of (t .source .visible) p) ≡ Err f
