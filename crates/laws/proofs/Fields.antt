@@ -178,27 +178,27 @@ one-wanted w (f ∷ fs) n m h =
     let q = none-wanted fs (p .value) m (p .gave) in
     record { field = f; are = ap (λ (l : List (List ℕ)). f ∷ l) (q .0); put = p .was ∙ ap Some (q .1) }
 
-one-taken : (w : Wanted) (f : List ℕ) (n m : Entry) → read-field w f n ≡ Some m → read-fields (w ∷ []) (f ∷ []) n ≡ Some m
-one-taken w f n m h = ap (λ (o : Option Entry). if-some o (λ x. read-fields [] [] x)) h
-
 -- The parts, written
 
-name-taken : (a : Name) (n : Entry) → name-fits true a ≡ true → read-field a-name (write-name a) n ≡ Some (with-name n a)
-name-taken a n h = ap (λ (o : Option Name). if-some o (λ b. Some (with-name n b))) (name-written a h)
+part-taken : {A : Type 0} (w : Wanted) (field : List ℕ → Option A) (put : A → Entry) (f : List ℕ) (a : A) (n : Entry) → read-field w f n ≡ if-some (field f) (λ b. Some (put b)) → field f ≡ Some a → read-fields (w ∷ []) (f ∷ []) n ≡ Some (put a)
+part-taken w field put f a n is e = ap (λ (o : Option Entry). if-some o (λ x. read-fields [] [] x)) (is ∙ ap (λ o. if-some o (λ b. Some (put b))) e)
+
+name-taken : (a : Name) (n : Entry) → name-fits true a ≡ true → read-fields (a-name ∷ []) (write-name a ∷ []) n ≡ Some (with-name n a)
+name-taken a n h = part-taken a-name name-field (with-name n) (write-name a) a n refl (name-written a h)
 
 name-part : (r : Role) (a : Name) (n : Entry) → n .node .name ≡ no-name → name-fits (role-named r) a ≡ true → read-fields (the-name r) (name-fields r a) n ≡ Some (with-name n a)
 name-part Plain a n z h = ap (λ (b : Name). Some (with-name n b)) (z ∙ sym (alike-same a no-name h))
-name-part Declares a n z h = one-taken a-name (write-name a) n (with-name n a) (name-taken a n h)
-name-part Refers a n z h = one-taken a-name (write-name a) n (with-name n a) (name-taken a n h)
+name-part Declares a n z h = name-taken a n h
+name-part Refers a n z h = name-taken a n h
 
 number-part : (o : Option ℕ) (x : ℕ) (n : Entry) → Small-most o → n .node .number ≡ 0 → number-fits o x ≡ true → read-fields (the-number o) (number-fields o x) n ≡ Some (with-number n x)
 number-part None x n s z h = ap (λ (m : ℕ). Some (with-number n m)) (z ∙ sym (eqb-true x 0 h))
 number-part (Some most) x n s z h =
     let l = leb-true x most h in
-    one-taken (a-number most) (decimal x) n (with-number n x) (ap (λ (o : Option ℕ). if-some o (λ m. Some (with-number n m))) (number-written most x l (omega arith)))
+    part-taken (a-number most) (number-field most) (with-number n) (decimal x) x n refl (number-written most x l (omega arith))
 
-origin-taken : (o : Origin) (n : Entry) → origin-fits true o ≡ true → read-field an-origin (write-origin o) n ≡ Some (with-origin n o)
-origin-taken o n h = ap (λ (x : Option Origin). if-some x (λ b. Some (with-origin n b))) (origin-written o h)
+origin-taken : (o : Origin) (n : Entry) → origin-fits true o ≡ true → read-fields (an-origin ∷ []) (write-origin o ∷ []) n ≡ Some (with-origin n o)
+origin-taken o n h = part-taken an-origin origin-field (with-origin n) (write-origin o) o n refl (origin-written o h)
 
 pub outer-is : (o : Origin) → origin-fits false o ≡ true → o ≡ Outer
 outer-is (Copied k) h = let z : _≡_ {A = ℕ} 0 1 = cc in absurd (omega arith)
@@ -211,8 +211,8 @@ origin-kept o n z h = ap (λ (b : Origin). Some (with-origin n b)) (z ∙ sym (o
 origin-part : (form : Form) (r : Role) (o : Origin) (n : Entry) → n .origin ≡ Outer → origin-ok form (role-named r) o ≡ true → read-fields (the-origin form r) (origin-fields form r o) n ≡ Some (with-origin n o)
 origin-part plain r o n z h = origin-kept o n z h
 origin-part draft Plain o n z h = origin-kept o n z h
-origin-part draft Declares o n z h = one-taken an-origin (write-origin o) n (with-origin n o) (origin-taken o n h)
-origin-part draft Refers o n z h = one-taken an-origin (write-origin o) n (with-origin n o) (origin-taken o n h)
+origin-part draft Declares o n z h = origin-taken o n h
+origin-part draft Refers o n z h = origin-taken o n h
 
 -- a node's fields that are written are read
 pub fields-written : (form : Form) (n : Entry) → Proper-node form n → read-fields (wanted form (n .node .kind)) (fields form n) (bare (n .node .kind)) ≡ Some n
@@ -230,82 +230,59 @@ fields-written form n p =
 
 -- The parts, read
 
-record Name-read (r : Role) (fs : List (List ℕ)) (n m : Entry) : Type 0 where
-  a : Name
-  are : fs ≡ name-fields r a
-  made : m ≡ with-name n a
-  fits : name-fits (role-named r) a ≡ true
+-- what a part of an entry was read from: the value's fields, and it fits
+record Part-read {A : Type 0} (texts : A → List (List ℕ)) (put : A → Entry) (ok : A → Bool) (fs : List (List ℕ)) (m : Entry) : Type 0 where
+  value : A
+  are : fs ≡ texts value
+  made : m ≡ put value
+  fits : ok value ≡ true
 
-name-got : (fs : List (List ℕ)) (n m : Entry) (r : Role) → role-named r ≡ true → ((a : Name) → name-fields r a ≡ write-name a ∷ []) → read-fields (a-name ∷ []) fs n ≡ Some m → Name-read r fs n m
-name-got fs n m r e s h =
-    let o = one-wanted a-name fs n m h in
-    let w = went (name-field (o .field)) (λ b. Some (with-name n b)) m (o .put) in
-    let q = name-read (o .field) (w .value) (w .was) in
+-- from one field
+part-got : {A : Type 0} (w : Wanted) (field : List ℕ → Option A) (put : A → Entry) (text : A → List ℕ) (ok : A → Bool) (fs : List (List ℕ)) (n m : Entry)
+  → ((f : List ℕ) → read-field w f n ≡ if-some (field f) (λ a. Some (put a)))
+  → ((f : List ℕ) (a : A) → field f ≡ Some a → (f ≡ text a) × (ok a ≡ true))
+  → read-fields (w ∷ []) fs n ≡ Some m → Part-read (λ a. text a ∷ []) put ok fs m
+part-got w field put text ok fs n m is back h =
+    let o = one-wanted w fs n m h in
+    let x = went (field (o .field)) (λ a. Some (put a)) m (sym (is (o .field)) ∙ o .put) in
+    let q = back (o .field) (x .value) (x .was) in
     record {
-      a = w .value;
-      are = o .are ∙ (ap (λ (l : List ℕ). l ∷ []) (q .written) ∙ sym (s (w .value)));
-      made = (let g = w .gave in cc);
-      fits = ap (λ (b : Bool). name-fits b (w .value)) e ∙ q .fits;
-    }
-
-name-back : (r : Role) (fs : List (List ℕ)) (n m : Entry) → n .node .name ≡ no-name → read-fields (the-name r) fs n ≡ Some m → Name-read r fs n m
-name-back Plain fs n m z h =
-    let q = none-wanted fs n m h in
-    record { a = n .node .name; are = q .0; made = sym (q .1); fits = same-alike (n .node .name) no-name z }
-name-back Declares fs n m z h = name-got fs n m Declares refl (λ a. refl) h
-name-back Refers fs n m z h = name-got fs n m Refers refl (λ a. refl) h
-
-record Number-read (o : Option ℕ) (fs : List (List ℕ)) (n m : Entry) : Type 0 where
-  x : ℕ
-  are : fs ≡ number-fields o x
-  made : m ≡ with-number n x
-  fits : number-fits o x ≡ true
-
-number-back : (o : Option ℕ) (fs : List (List ℕ)) (n m : Entry) → Small-most o → n .node .number ≡ 0 → read-fields (the-number o) fs n ≡ Some m → Number-read o fs n m
-number-back None fs n m s z h =
-    let q = none-wanted fs n m h in
-    record { x = n .node .number; are = q .0; made = sym (q .1); fits = eq-eqb (n .node .number) 0 z }
-number-back (Some most) fs n m s z h =
-    let o = one-wanted (a-number most) fs n m h in
-    let w = went (number-field most (o .field)) (λ j. Some (with-number n j)) m (o .put) in
-    let q = number-read most (w .value) (o .field) (omega arith) (w .was) in
-    record {
-      x = w .value;
+      value = x .value;
       are = o .are ∙ ap (λ (l : List ℕ). l ∷ []) (q .0);
-      made = (let g = w .gave in cc);
-      fits = le-leb (w .value) most (q .1);
+      made = (let g = x .gave in cc);
+      fits = q .1;
     }
 
-record Origin-read (form : Form) (r : Role) (fs : List (List ℕ)) (n m : Entry) : Type 0 where
-  o : Origin
-  are : fs ≡ origin-fields form r o
-  made : m ≡ with-origin n o
-  fits : origin-ok form (role-named r) o ≡ true
-
-origin-got : (fs : List (List ℕ)) (n m : Entry) (r : Role) → role-named r ≡ true → ((o : Origin) → origin-fields draft r o ≡ write-origin o ∷ []) → read-fields (an-origin ∷ []) fs n ≡ Some m → Origin-read draft r fs n m
-origin-got fs n m r e s h =
-    let p = one-wanted an-origin fs n m h in
-    let w = went (origin-field (p .field)) (λ b. Some (with-origin n b)) m (p .put) in
-    let q = origin-read (p .field) (w .value) (w .was) in
-    record {
-      o = w .value;
-      are = p .are ∙ (ap (λ (l : List ℕ). l ∷ []) (q .written) ∙ sym (s (w .value)));
-      made = (let g = w .gave in cc);
-      fits = ap (λ (b : Bool). origin-fits b (w .value)) e ∙ q .fits;
-    }
-
-outer-fits : (o : Origin) → o ≡ Outer → origin-fits false o ≡ true
-outer-fits o e = ap (origin-fits false) e
-
-origin-back : (form : Form) (r : Role) (fs : List (List ℕ)) (n m : Entry) → n .origin ≡ Outer → read-fields (the-origin form r) fs n ≡ Some m → Origin-read form r fs n m
-origin-back plain r fs n m z h =
+-- from none, where the entry has the value already
+part-kept : {A : Type 0} (put : A → Entry) (ok : A → Bool) (a : A) (fs : List (List ℕ)) (n m : Entry) → n ≡ put a → ok a ≡ true → read-fields [] fs n ≡ Some m → Part-read (λ a. []) put ok fs m
+part-kept put ok a fs n m e k h =
     let q = none-wanted fs n m h in
-    record { o = n .origin; are = q .0; made = sym (q .1); fits = outer-fits (n .origin) z }
-origin-back draft Plain fs n m z h =
-    let q = none-wanted fs n m h in
-    record { o = n .origin; are = q .0; made = sym (q .1); fits = outer-fits (n .origin) z }
-origin-back draft Declares fs n m z h = origin-got fs n m Declares refl (λ o. refl) h
-origin-back draft Refers fs n m z h = origin-got fs n m Refers refl (λ o. refl) h
+    record { value = a; are = q .0; made = sym (q .1) ∙ e; fits = k }
+
+name-got : (fs : List (List ℕ)) (n m : Entry) → read-fields (a-name ∷ []) fs n ≡ Some m → Part-read (λ a. write-name a ∷ []) (with-name n) (name-fits true) fs m
+name-got fs n m h = part-got a-name name-field (with-name n) write-name (name-fits true) fs n m (λ f. refl) (λ f a e. let q = name-read f a e in (q .written, q .fits)) h
+
+name-back : (r : Role) (fs : List (List ℕ)) (n m : Entry) → n .node .name ≡ no-name → read-fields (the-name r) fs n ≡ Some m → Part-read (name-fields r) (with-name n) (name-fits (role-named r)) fs m
+name-back Plain fs n m z h = part-kept (with-name n) (name-fits false) (n .node .name) fs n m refl (same-alike (n .node .name) no-name z) h
+name-back Declares fs n m z h = name-got fs n m h
+name-back Refers fs n m z h = name-got fs n m h
+
+number-back : (o : Option ℕ) (fs : List (List ℕ)) (n m : Entry) → Small-most o → n .node .number ≡ 0 → read-fields (the-number o) fs n ≡ Some m → Part-read (number-fields o) (with-number n) (number-fits o) fs m
+number-back None fs n m s z h = part-kept (with-number n) (number-fits None) (n .node .number) fs n m refl (eq-eqb (n .node .number) 0 z) h
+number-back (Some most) fs n m s z h =
+    part-got (a-number most) (number-field most) (with-number n) decimal (number-fits (Some most)) fs n m (λ f. refl) (λ f x e. let q = number-read most x f (omega arith) e in (q .0, le-leb x most (q .1))) h
+
+origin-got : (fs : List (List ℕ)) (n m : Entry) → read-fields (an-origin ∷ []) fs n ≡ Some m → Part-read (λ o. write-origin o ∷ []) (with-origin n) (origin-fits true) fs m
+origin-got fs n m h = part-got an-origin origin-field (with-origin n) write-origin (origin-fits true) fs n m (λ f. refl) (λ f o e. let q = origin-read f o e in (q .written, q .fits)) h
+
+origin-none : (fs : List (List ℕ)) (n m : Entry) → n .origin ≡ Outer → read-fields [] fs n ≡ Some m → Part-read (λ o. []) (with-origin n) (origin-fits false) fs m
+origin-none fs n m z h = part-kept (with-origin n) (origin-fits false) (n .origin) fs n m refl (ap (origin-fits false) z) h
+
+origin-back : (form : Form) (r : Role) (fs : List (List ℕ)) (n m : Entry) → n .origin ≡ Outer → read-fields (the-origin form r) fs n ≡ Some m → Part-read (origin-fields form r) (with-origin n) (origin-ok form (role-named r)) fs m
+origin-back plain r fs n m z h = origin-none fs n m z h
+origin-back draft Plain fs n m z h = origin-none fs n m z h
+origin-back draft Declares fs n m z h = origin-got fs n m h
+origin-back draft Refers fs n m z h = origin-got fs n m h
 
 pub record Fields-read (form : Form) (k : Kind) (fs : List (List ℕ)) (n : Entry) : Type 0 where
   pub kind : n .node .kind ≡ k
@@ -324,12 +301,12 @@ fields-read form k fs n h =
     let a = name-back r (p .front) (bare k) (p .middle) refl (p .first) in
     let q = parted (the-number (row k .most)) (the-origin form r) (p .rest) (p .middle) n (p .then) in
     let x = number-back (row k .most) (q .front) (p .middle) (q .middle) (most-small k) (ap (λ (m : Entry). m .node .number) (a .made)) (q .first) in
-    let c : q .middle ≡ with-number (with-name (bare k) (a .a)) (x .x) = x .made ∙ ap (λ (m : Entry). with-number m (x .x)) (a .made) in
+    let c : q .middle ≡ with-number (with-name (bare k) (a .value)) (x .value) = x .made ∙ ap (λ (m : Entry). with-number m (x .value)) (a .made) in
     let o = origin-back form r (q .rest) (q .middle) n (ap (λ (m : Entry). m .origin) c) (q .then) in
-    let e : made-of k (a .a) (x .x) (o .o) ≡ n = sym (o .made ∙ ap (λ (m : Entry). with-origin m (o .o)) c) in
+    let e : made-of k (a .value) (x .value) (o .value) ≡ n = sym (o .made ∙ ap (λ (m : Entry). with-origin m (o .value)) c) in
     subst (Fields-read form k fs) e
     (record {
       kind = refl;
-      are = p .are ∙ (ap (λ (l : List (List ℕ)). l ++ p .rest) (a .are) ∙ ap (λ (l : List (List ℕ)). name-fields r (a .a) ++ l) (q .are ∙ (ap (λ (l : List (List ℕ)). l ++ q .rest) (x .are) ∙ ap (λ (l : List (List ℕ)). number-fields (row k .most) (x .x) ++ l) (o .are))));
+      are = p .are ∙ (ap (λ (l : List (List ℕ)). l ++ p .rest) (a .are) ∙ ap (λ (l : List (List ℕ)). name-fields r (a .value) ++ l) (q .are ∙ (ap (λ (l : List (List ℕ)). l ++ q .rest) (x .are) ∙ ap (λ (l : List (List ℕ)). number-fields (row k .most) (x .value) ++ l) (o .are))));
       proper = record { name = a .fits; number = x .fits; origin = o .fits };
     })
