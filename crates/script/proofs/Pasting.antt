@@ -78,6 +78,16 @@ pub two-puts : (d d₁ d₂ : List ℕ) (a b : ℕ) (s t : List ℕ) → a + len
 two-puts d d₁ d₂ a b s t h p e q =
     q ∙ (ap (λ (l : List ℕ). pasted l b t) p ∙ (ap (λ (k : ℕ). pasted (pasted d a s) k t) e ∙ paste-after d a s t h))
 
+-- a text that is empty: nothing is written
+pub put-nothing : (d : List ℕ) (a : ℕ) (t : List ℕ) → t ≡ [] → (a ≡ a + length t) × (d ≡ pasted d a t)
+put-nothing d a t e = (omega (arith, ap length e), sym (ap (pasted d a) e ∙ paste-none d a))
+
+-- one byte of the text, then the rest of it
+pub put-byte-then : (d d₁ d₂ : List ℕ) (a b r x : ℕ) (s t : List ℕ) → t ≡ x ∷ s → a + length t ≤ length d → d₁ ≡ pasted d a (x ∷ []) → b ≡ a + 1 → d₂ ≡ pasted d₁ b s → r ≡ b + length s → (r ≡ a + length t) × (d₂ ≡ pasted d a t)
+put-byte-then d d₁ d₂ a b r x s t e l p f q g =
+    let n = ap length e in
+    (omega (arith, n), two-puts d d₁ d₂ a b (x ∷ []) s (omega (arith, n)) p f q ∙ ap (pasted d a) (sym e))
+
 pub mark-none : (m : ℕ) → m ≡ 0 → write-mark m ≡ []
 mark-none m e = cond-true (eqb m 0) _ _ (eq-eqb m 0 e)
 

@@ -1,28 +1,19 @@
-use mathlib.Core.Path.{sym, ap, _∙_}
-use mathlib.Core.List.{[], _∷_}
-use Prim.Native.Nat.{_+_, _≤_}
-use native.Mathlib.Omega.{arith}
-use lib.ListN.{length}
+use mathlib.Core.Path.{sym, _∙_}
 use Rattle.model.specs.Fields.{write-name}
-use Rattle.script.specs.Buffers.{pasted}
-use Rattle.script.proofs.Pasting.{paste-none, two-puts}
+use Rattle.script.specs.Buffers.{name-text}
+use Rattle.script.proofs.Pasting.{put-nothing, put-byte-then}
 use Rattle.script.proofs.LineTexts.{no-name-text, a-name-text}
 use Rattle.script.proofs.writer.put_name_field.Needs as need
 
 pub returns-then-not-has-name : need.returns-then-not-has-name
 returns-then-not-has-name c =
-    let e = no-name-text (c .args .role) (c .args .name .now) (sym (c .has-name .ensures) ∙ c .if-not-has-name .taken) in
-    record {
-      end = omega (arith, ap length e);
-      after = sym (ap (pasted (c .args .out .now) (c .args .from)) e ∙ paste-none (c .args .out .now) (c .args .from));
-    }
+    let a = c .args .name .now in
+    let p = put-nothing (c .args .out .now) (c .args .from) (name-text (c .args .role) a) (no-name-text (c .args .role) a (sym (c .has-name .ensures) ∙ c .if-not-has-name .taken)) in
+    record { end = p .0; after = p .1 }
 
 pub returns : need.returns
 returns c =
-    let e = a-name-text (c .args .role) (c .args .name .now) (sym (c .has-name .ensures) ∙ c .if-not-has-name .left) in
-    let l : c .args .from + 1 ≤ length (c .args .out .now) = omega (arith, c .pre, ap length e) in
-    record {
-      end = omega (arith, c .put-name .ensures .end, c .put-byte-at .ensures .end, ap length e);
-      after = two-puts (c .args .out .now) (c .put-byte-at .last .out) (c .put-name .last .out) (c .args .from) (c .put-byte-at .result) (9 ∷ []) (write-name (c .args .name .now)) l (c .put-byte-at .ensures .after) (c .put-byte-at .ensures .end) (c .put-name .ensures .after)
-          ∙ ap (pasted (c .args .out .now) (c .args .from)) (sym e);
-    }
+    let a = c .args .name .now in
+    let p = put-byte-then (c .args .out .now) (c .put-byte-at .last .out) (c .put-name .last .out) (c .args .from) (c .put-byte-at .result) (c .put-name .result) 9 (write-name a) (name-text (c .args .role) a)
+        (a-name-text (c .args .role) a (sym (c .has-name .ensures) ∙ c .if-not-has-name .left)) (c .pre) (c .put-byte-at .ensures .after) (c .put-byte-at .ensures .end) (c .put-name .ensures .after) (c .put-name .ensures .end) in
+    record { end = p .0; after = p .1 }
