@@ -239,9 +239,9 @@ record Part-read {A : Type 0} (texts : A → List (List ℕ)) (put : A → Entry
 
 -- from one field
 part-got : {A : Type 0} (w : Wanted) (field : List ℕ → Option A) (put : A → Entry) (text : A → List ℕ) (ok : A → Bool) (fs : List (List ℕ)) (n m : Entry)
-  → ((f : List ℕ) → read-field w f n ≡ if-some (field f) (λ a. Some (put a)))
-  → ((f : List ℕ) (a : A) → field f ≡ Some a → (f ≡ text a) × (ok a ≡ true))
-  → read-fields (w ∷ []) fs n ≡ Some m → Part-read (λ a. text a ∷ []) put ok fs m
+    → ((f : List ℕ) → read-field w f n ≡ if-some (field f) (λ a. Some (put a)))
+    → ((f : List ℕ) (a : A) → field f ≡ Some a → (f ≡ text a) × (ok a ≡ true))
+    → read-fields (w ∷ []) fs n ≡ Some m → Part-read (λ a. text a ∷ []) put ok fs m
 part-got w field put text ok fs n m is back h =
     let o = one-wanted w fs n m h in
     let x = went (field (o .field)) (λ a. Some (put a)) m (sym (is (o .field)) ∙ o .put) in

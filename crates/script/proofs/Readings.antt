@@ -27,7 +27,6 @@ use Rattle.model.specs.Writing.{write, write-draft}
 use Rattle.model.specs.Fitting.{Program, DraftProgram}
 use Rattle.laws.proofs.RoundTrips.{round-trips, draft-round-trips, length-nodes}
 use Rattle.script.specs.Reads.{rest-read, In-row, Returned, Filled}
-use Rattle.script.specs.Trips.{Read-back, Draft-back}
 
 abbrev Into : Type 0
 Into = Result (List Entry) TextFault
@@ -118,49 +117,29 @@ module _ (g : Grammar) (text : List ℕ) (old row : List Entry) where
       subst (λ (x : Result ℕ TextFault). made x (λ n. (n ≤ 1024) × (n ≤ length row))) (sym v)
       (few, omega (arith, ap length a, length-append es (drop (length es) old)))
 
-  record Trip (Back : Result ℕ TextFault → List Entry → Type 0) (r : Result ℕ TextFault) : Type 0 where
-    back : Back r row
-    within : made r (λ n. (n ≤ 1024) × (n ≤ length row))
+  -- what holds of the entries that a text says, holds of the front of the row
+  pub record Trip (Says : List Entry → Type 0) (r : Result ℕ TextFault) : Type 0 where
+    pub back : made r (λ n. Says (take n row))
+    pub within : made r (λ n. (n ≤ 1024) × (n ≤ length row))
 
-  -- a refusal says nothing of the row
-  refused-trip : (Back : Result ℕ TextFault → List Entry → Type 0) (f : TextFault) (r : Result ℕ TextFault) → r ≡ Err f → Back (Err f) row → Trip Back r
-  refused-trip Back f r v b = subst (Trip Back) (sym v) (record { back = b; within = tt })
-
-  plain-trip : (w : Into) (r : Result ℕ TextFault) → into plain ≡ w → r ≡ counted w → row ≡ row-after w old → Trip (Read-back g text) r
-  plain-trip (Ok es) r e v a =
-      let front = front-is es old row (length es) refl a in
-      let whole = round-trips g .read-is-written text (nodes es) (ap (λ (x : Read-out). and-then x (λ fs. Ok (nodes fs))) (accepted plain es e .was)) in
+  trip : (form : Form) (Says : List Entry → Type 0) → ((es : List Entry) → read g form text ≡ Ok es → Says es × (length es ≤ 1024))
+      → (w : Into) (r : Result ℕ TextFault) → into form ≡ w → r ≡ counted w → row ≡ row-after w old → Trip Says r
+  trip form Says said (Ok es) r e v a =
+      let q = said es (accepted form es e .was) in
       record {
-        back = subst (λ (x : Result ℕ TextFault). Read-back g text x row) (sym v)
-            (subst (λ (x : List Entry). Program g (nodes x) × (write (nodes x) ≡ text)) (sym front) whole);
-        within = within-row es r (omega (arith, whole .0 .few, length-nodes es)) v a;
+        back = subst (λ (x : Result ℕ TextFault). made x (λ n. Says (take n row))) (sym v) (subst Says (sym (front-is es old row (length es) refl a)) (q .0));
+        within = within-row es r (q .1) v a;
       }
-  plain-trip (Err f) r e v a = refused-trip (Read-back g text) f r v tt
+  trip form Says said (Err f) r e v a = subst (Trip Says) (sym v) (record { back = tt; within = tt })
 
-  draft-trip : (w : Into) (r : Result ℕ TextFault) → into draft ≡ w → r ≡ counted w → row ≡ row-after w old → Trip (Draft-back g text) r
-  draft-trip (Ok es) r e v a =
-      let front = front-is es old row (length es) refl a in
-      let whole = draft-round-trips g .read-is-written text es (accepted draft es e .was) in
-      record {
-        back = subst (λ (x : Result ℕ TextFault). Draft-back g text x row) (sym v)
-            (subst (λ (x : List Entry). DraftProgram g x × (write-draft x ≡ text)) (sym front) whole);
-        within = within-row es r (omega (arith, whole .0 .program .few, length-nodes es)) v a;
-      }
-  draft-trip (Err f) r e v a = refused-trip (Draft-back g text) f r v tt
+  pub read-trip : (r : Result ℕ TextFault) → r ≡ counted (read-into g plain text (length old)) → row ≡ row-after (read-into g plain text (length old)) old → Trip (λ es. Program g (nodes es) × (write (nodes es) ≡ text)) r
+  unfolding into
+  read-trip r v a =
+      trip plain (λ es. Program g (nodes es) × (write (nodes es) ≡ text)) (λ es e. let q = round-trips g .read-is-written text (nodes es) (ap (λ (x : Read-out). and-then x (λ fs. Ok (nodes fs))) e) in (q, omega (arith, q .0 .few, length-nodes es)))
+      (into plain) r refl v a
 
-  module _ (r : Result ℕ TextFault) where
-    pub read-back : r ≡ counted (read-into g plain text (length old)) → row ≡ row-after (read-into g plain text (length old)) old → Read-back g text r row
-    unfolding into
-    read-back v a = plain-trip (into plain) r refl v a .back
-
-    pub read-within : r ≡ counted (read-into g plain text (length old)) → row ≡ row-after (read-into g plain text (length old)) old → made r (λ n. (n ≤ 1024) × (n ≤ length row))
-    unfolding into
-    read-within v a = plain-trip (into plain) r refl v a .within
-
-    pub draft-back : r ≡ counted (read-into g draft text (length old)) → row ≡ row-after (read-into g draft text (length old)) old → Draft-back g text r row
-    unfolding into
-    draft-back v a = draft-trip (into draft) r refl v a .back
-
-    pub draft-within : r ≡ counted (read-into g draft text (length old)) → row ≡ row-after (read-into g draft text (length old)) old → made r (λ n. (n ≤ 1024) × (n ≤ length row))
-    unfolding into
-    draft-within v a = draft-trip (into draft) r refl v a .within
+  pub draft-trip : (r : Result ℕ TextFault) → r ≡ counted (read-into g draft text (length old)) → row ≡ row-after (read-into g draft text (length old)) old → Trip (λ es. DraftProgram g es × (write-draft es ≡ text)) r
+  unfolding into
+  draft-trip r v a =
+      trip draft (λ es. DraftProgram g es × (write-draft es ≡ text)) (λ es e. let q = draft-round-trips g .read-is-written text es e in (q, omega (arith, q .0 .program .few, length-nodes es)))
+      (into draft) r refl v a

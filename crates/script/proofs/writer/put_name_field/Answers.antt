@@ -15,5 +15,5 @@ pub returns : need.returns
 returns c =
     let a = c .args .name .now in
     let p = put-byte-then (c .args .out .now) (c .put-byte-at .last .out) (c .put-name .last .out) (c .args .from) (c .put-byte-at .result) (c .put-name .result) 9 (write-name a) (name-text (c .args .role) a)
-        (a-name-text (c .args .role) a (sym (c .has-name .ensures) ∙ c .if-not-has-name .left)) (c .pre) (c .put-byte-at .ensures .after) (c .put-byte-at .ensures .end) (c .put-name .ensures .after) (c .put-name .ensures .end) in
+    (a-name-text (c .args .role) a (sym (c .has-name .ensures) ∙ c .if-not-has-name .left)) (c .pre) (c .put-byte-at .ensures .after) (c .put-byte-at .ensures .end) (c .put-name .ensures .after) (c .put-name .ensures .end) in
     record { end = p .0; after = p .1 }

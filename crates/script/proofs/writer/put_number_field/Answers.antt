@@ -16,5 +16,5 @@ pub returns-in-Some : need.returns-in-Some
 returns-in-Some c =
     let n = c .args .n in
     let p = put-byte-then (c .args .out .now) (c .put-byte-at .last .out) (c .put-number .last .out) (c .args .from) (c .put-byte-at .result) (c .put-number .result) 9 (decimal n) (number-text (c .args .most) n)
-        (ap (λ (o : Option ℕ). number-text o n) (c .in-Some .is)) (c .pre) (c .put-byte-at .ensures .after) (c .put-byte-at .ensures .end) (c .put-number .ensures .after) (c .put-number .ensures .end) in
+    (ap (λ (o : Option ℕ). number-text o n) (c .in-Some .is)) (c .pre) (c .put-byte-at .ensures .after) (c .put-byte-at .ensures .end) (c .put-number .ensures .after) (c .put-number .ensures .end) in
     record { end = p .0; after = p .1 }
