@@ -8,10 +8,12 @@ use lib.Chars.{codes}
 use lib.Dec.{eqb}
 use Rattle.std.specs.declared.option.Option.the-variants.{None}
 use Rattle.model.specs.declared.kinds.Kind.the-variants.{Flat}
+use Rattle.model.specs.declared.faults.Layer.{Layer}
+use Rattle.model.specs.declared.faults.Layer.the-variants.{Reading, Repairing}
 use Rattle.model.specs.declared.answers.Answer.{Answer}
 use Rattle.model.specs.declared.answers.Answer.the-variants.{Loaded, Ran, Is, Written, Refused}
 use Rattle.model.specs.Writing.{write}
-use Rattle.model.specs.Faults.{session-number, session-place}
+use Rattle.model.specs.Faults.{session-number, session-place, session-layer}
 use Rattle.model.specs.Book.{new}
 use Rattle.model.specs.Calls.{Call, load, step, adopt, tell, heard, book-after, standard}
 
@@ -40,14 +42,14 @@ answers cs = map (λ h. h .answer) (heard standard new cs)
 abbrev pub written : List Call → List ℕ
 written cs = write (book-after standard new cs .program)
 
--- refused with a number, at a place
-abbrev pub refusals : List Answer → List (ℕ × ℕ)
+-- refused with a number, at a place, by a layer
+abbrev pub refusals : List Answer → List (ℕ × ℕ × Layer)
 refusals [] = []
 refusals (Loaded n ∷ more) = refusals more
 refusals (Ran n r ∷ more) = refusals more
 refusals (Is t ∷ more) = refusals more
 refusals (Written n ∷ more) = refusals more
-refusals (Refused f ∷ more) = (session-number f, session-place f) ∷ refusals more
+refusals (Refused f ∷ more) = (session-number f, session-place f, session-layer f) ∷ refusals more
 
 abbrev swell : Call
 swell = loads "card 4/def lo/byte 0/def hi/byte 1/field swell 0/out/ref swell/"
@@ -77,7 +79,7 @@ Two-fields =
 
 -- the empty text
 abbrev Empty-text : Type 0
-Empty-text = refusals (answers (loads "" ∷ [])) ≡ (4, 0) ∷ []
+Empty-text = refusals (answers (loads "" ∷ [])) ≡ (4, 0, Reading) ∷ []
 
 -- a repair of two rounds
 abbrev shadows : Call
@@ -105,7 +107,7 @@ Empty-card =
 abbrev Refused-drafts : Type 0
 Refused-drafts =
     refusals (answers (loads "tree/let a/num 1/put/ref a/end/" ∷ adopts "tree/let a s2/num 1/end/" ∷ adopts "tree/let a s1/num 1/put/ref b s4/end/" ∷ adopts "flat 1/emit/ref a s4/" ∷ adopts "tree/let a o/num 1/end/" ∷ []))
-    ≡ (9, 1) ∷ (10, 4) ∷ (12, 2) ∷ (11, 1) ∷ []
+    ≡ (9, 1, Repairing) ∷ (10, 4, Repairing) ∷ (12, 2, Repairing) ∷ (11, 1, Repairing) ∷ []
 
 -- two captors of one stem: the one with the lower name has the first mark
 abbrev Two-captors : Type 0
