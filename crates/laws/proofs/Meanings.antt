@@ -101,7 +101,7 @@ module _ (t : Transformation) where
     unfaulted h =
         record {
           unfaulted = λ p d o e. subst (Faultless (from p)) (taken (made (from p)) d (sym (makes (from p)) ∙ e)) (h p o);
-          never-refused = λ p f o e. not-refused p (made (from p)) f (makes (from p)) (h p (o .of)) e;
+          never-refused = λ p f o e. not-refused p (made (from p)) f (makes (from p)) (h p o) e;
         }
 
 -- a given draft of the language

@@ -8,7 +8,7 @@ use Rattle.model.specs.declared.nodes.Node.{Node}
 use Rattle.model.specs.declared.faults.RepairFault.{RepairFault}
 use Rattle.model.specs.declared.faults.DraftFault.the-variants.{Repair as OfRepair}
 use Rattle.model.specs.Names.{nodes}
-use Rattle.model.specs.Fitting.{Of, Program}
+use Rattle.model.specs.Fitting.{Of}
 use Rattle.model.specs.Forest.{shape}
 use Rattle.model.specs.Scopes.{Language}
 use Rattle.model.specs.Classes.{Draft, source-of, classes}
@@ -39,7 +39,7 @@ pub record Standard-keeps : Type 0 where
 pub record Unfaulted (t : Transformation) : Type 0 where
   pub unfaulted : (p : List Node) (d : Draft) → Of (t .source .grammar) p → t .draft (source-of (t .source .visible) p) ≡ Ok d
       → fault (source-of (t .source .visible) p) (t .target .visible (shape (nodes d))) (classes (source-of (t .source .visible) p) d) d ≡ None
-  pub never-refused : (p : List Node) (f : RepairFault) → Program (t .source .grammar) p → repairing t (source-of (t .source .visible) p) ≡ Err (OfRepair f) → ⊥
+  pub never-refused : (p : List Node) (f : RepairFault) → Of (t .source .grammar) p → repairing t (source-of (t .source .visible) p) ≡ Err (OfRepair f) → ⊥
 
 abbrev pub Drafts-unfaulted : Type 0
 Drafts-unfaulted = Unfaulted lower × Unfaulted flatten
