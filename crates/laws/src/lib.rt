@@ -1,5 +1,6 @@
+#![tactic(auto)]
 // What follows from the definitions of texts, trees, scopes and stages: each function's contract is one theorem.
-ghost use Rattle.model.specs.Kinds.{Grammar as Kinds-allowed};
+ghost use Rattle.model.specs.Kinds.{Grammar as KindsAllowed};
 ghost use Rattle.laws.specs.RoundTrips.{RoundTrips, DraftRoundTrips, WrittenIsShort, DraftWrittenIsShort};
 ghost use Rattle.laws.specs.Forests.{ForestLaws};
 ghost use Rattle.laws.specs.Orders.{OrdersVisible, LanguagesParts, ReachesLawful};
@@ -11,12 +12,12 @@ ghost use Rattle.laws.specs.Walks.{WalkLaws, WalkSteps};
 // Over every grammar, a script read and written is the same text, and a program written and read
 // has the same kinds, numbers and names.
 pub fn round_trips()
-    ensures { (g : Kinds-allowed) → RoundTrips g }
+    ensures { (g : KindsAllowed) → RoundTrips g }
 {}
 
 // The same of drafts, with their origins.
 pub fn draft_round_trips()
-    ensures { (g : Kinds-allowed) → DraftRoundTrips g }
+    ensures { (g : KindsAllowed) → DraftRoundTrips g }
 {}
 
 // No program is too long to be read: a line takes at most 25 bytes, in a draft 32.

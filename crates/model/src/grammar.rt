@@ -1,12 +1,12 @@
 // Grammars: which kinds may be the root of a program, and which may stand below it.
 ghost use Rattle.std.specs.Prelude.{◌≡◌};
 ghost use Rattle.model.specs.Lists.{any};
-ghost use Rattle.model.specs.Kinds.{Grammar as Kinds-allowed, is, same_sort, stands_under, allowed, card_grammar, tree_grammar, flat_grammar, root_grammar};
+ghost use Rattle.model.specs.Kinds.{Grammar as KindsAllowed, is, same_sort, stands_under, allowed, card_grammar, tree_grammar, flat_grammar, root_grammar};
 
 use crate::kinds::{Kind, Sort, row, same_kind};
 
 pub trait Grammar {
-    ghost grammar: { Kinds-allowed };
+    ghost grammar: { KindsAllowed };
 
     // Whether a kind may be a root.
     fn is_root(kind: Kind) -> bool

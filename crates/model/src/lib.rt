@@ -1,3 +1,4 @@
+#![tactic(auto)]
 // The plain data of name-fix for card scripts, and in specs/ what the rules say of it.
 pub mod answers;
 pub mod classes;

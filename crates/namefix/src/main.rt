@@ -1,3 +1,4 @@
+#![tactic(auto)]
 // The program: takes its arguments apart, and prints what the libraries decide.
 mod bench;
 mod check;

@@ -1,3 +1,4 @@
+#![tactic(auto)]
 // The laws of the repair, and the promise, over every language and every transformation that keeps the rules: each function's contract is one theorem.
 
 ghost use Rattle.promise.specs.Rounds.{FreshSpelling, DraftsClassed, RoundKeeps, RespelledOnce, RepairEnds, MarksSmall};

@@ -1,3 +1,4 @@
+#![tactic(auto)]
 // The repair of a draft.
 mod marks;
 mod rounds;

@@ -1,3 +1,4 @@
+#![tactic(auto)]
 // Scopes: what every name of a program reaches, in each language.
 mod by_root;
 mod cards;

@@ -1,3 +1,5 @@
+#![tactic(auto)]
+
 mod buffers;
 mod fields;
 mod lines;

@@ -1,3 +1,4 @@
+#![tactic(auto)]
 // Trials of the libraries at the edges of their rules: the cases are tests.
 #[cfg(test)]
 mod reading;

@@ -5,4 +5,4 @@ use Rattle.model.specs.Table.{RowOf}
 use Rattle.model.proofs.grammar.stands_under.Goals as goal
 
 pub returns : goal.returns
-returns c = c.is-among.ensures ∙ ap (λ (t : RowOf). any (is c.args.root) t.row.under) c.row.ensures
+returns c = c.is_among.ensures ∙ ap (λ (t : RowOf). any (is c.args.root) t.row.under) c.row.ensures

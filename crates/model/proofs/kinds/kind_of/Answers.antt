@@ -7,18 +7,18 @@ use Rattle.std.proofs.lemmas.Bool.Decides.{Decides-eqb}
 
 pub returns-then-eq : goal.returns-then-eq
 returns-then-eq c =
-    let l = in_table c.all-kinds-row-items.result.now c.all-kinds-row-items.ensures in
-    sym (row_matches c.all-kinds-row-items.result.now c.loop-row.row-index _ c.args.word.now c.all-kinds-row-items.ensures (omega (arith, c.loop-row-test.true)) ((slice_eq-Decides Decides-eqb _ _ _ c.eq.ensures).0 c.if-eq.true)) ∙ c.loop-row.invariant
+    let l = in_table c.all_kinds-row-items.result.now c.all_kinds-row-items.ensures in
+    sym (row_matches c.all_kinds-row-items.result.now c.loop-row.row-index _ c.args.word.now c.all_kinds-row-items.ensures (omega (arith, c.loop-row-test.true)) ((slice_eq-Decides Decides-eqb _ _ _ c.eq.ensures).0 c.if-eq.true)) ∙ c.loop-row.invariant
 
 pub loop-row-preserved : goal.loop-row-preserved
 loop-row-preserved c =
-    let l = in_table c.all-kinds-row-items.result.now c.all-kinds-row-items.ensures in
-    row_differs c.all-kinds-row-items.result.now c.loop-row.row-index _ c.args.word.now c.all-kinds-row-items.ensures (omega (arith, c.loop-row-test.true))
+    let l = in_table c.all_kinds-row-items.result.now c.all_kinds-row-items.ensures in
+    row_differs c.all_kinds-row-items.result.now c.loop-row.row-index _ c.args.word.now c.all_kinds-row-items.ensures (omega (arith, c.loop-row-test.true))
     (λ e. both_ways _ c.if-eq.false ((slice_eq-Decides Decides-eqb _ _ _ c.eq.ensures).1 e)) ∙ c.loop-row.invariant
 
 pub returns : goal.returns
 returns c =
-    let l = in_table c.all-kinds-row-items.result.now c.all-kinds-row-items.ensures in
+    let l = in_table c.all_kinds-row-items.result.now c.all_kinds-row-items.ensures in
     let n : c.loop-row.row-index ≡ 25 = omega (arith, c.loop-row-test.false, c.loop-row.auto.row-index-end) in
     sym (sym c.loop-row.invariant ∙ ap (kind_from c.args.word.now) n)
 

@@ -11,14 +11,14 @@ loop-entry-init c = (shows_none c.args.words.now _ c.args.name.now c.requires.cl
 pub loop-entry-preserved : goal.loop-entry-preserved
 loop-entry-preserved c =
     let old = c.loop-entry.invariant in
-    elim c.if-is-of-stem.branch [
+    elim c.if-is_of_stem.branch [
       | then-is-of-stem+then-mark-lt-NOTED w ↦
-          let after = w.words-is ∙ w.note-mark.ensures in (
-            shows_noted c.loop-entry.words _ c.args.name.now c.args.program.now c.loop-entry.entry-index _ _ c.loop-entry-test.true old.0 c.is-of-stem.ensures w.if-is-of-stem.true (noted c.loop-entry.words _ _ (omega (arith, w.if-mark-lt-NOTED.true, c.loop-entry.auto.words, c.requires.long)) after),
+          let after = w.words-is ∙ w.note_mark.ensures in (
+            shows_noted c.loop-entry.words _ c.args.name.now c.args.program.now c.loop-entry.entry-index _ _ c.loop-entry-test.true old.0 c.is_of_stem.ensures w.if-is_of_stem.true (noted c.loop-entry.words _ _ (omega (arith, w.if-mark-lt-NOTED.true, c.loop-entry.auto.words, c.requires.long)) after),
             ap (drop 16) after ∙ (drop-set-lt 16 c.loop-entry.words _ _ (omega (arith, w.if-mark-lt-NOTED.true)) ∙ old.1),
           )
       | else-is-of-stem w ↦ (
-        shows_left_out c.loop-entry.words _ c.args.name.now c.args.program.now c.loop-entry.entry-index _ _ c.loop-entry-test.true old.0 c.is-of-stem.ensures w.words-is w.else-is-of-stem.either,
+        shows_left_out c.loop-entry.words _ c.args.name.now c.args.program.now c.loop-entry.entry-index _ _ c.loop-entry-test.true old.0 c.is_of_stem.ensures w.words-is w.else-is-of-stem.either,
         ap (drop 16) w.words-is ∙ old.1,
       )
     ]

@@ -8,22 +8,22 @@ use Rattle.repair.proofs.rounds.captive.Goals.{else-are-together-via-then-are-to
 pub loop-at-init : goal.loop-at-init
 loop-at-init c = λ m p q. absurd (omega arith)
 
-pub returns-then-not-are-together : goal.returns-then-not-are-together
-returns-then-not-are-together c =
+pub returns-then-not-are_together : goal.returns-then-not-are_together
+returns-then-not-are_together c =
     let cs = c.args.classes.now in
     sym (first_found (captured cs (classes_of cs c.args.reached.now) c.args.captor) 0 _ c.loop-at.at (omega arith) (omega (arith, c.loop-at-test.true))
-    (is_captive cs c.args.reached.now c.args.captor c.loop-at.at _ _ (omega (arith, c.loop-at-test.true, c.requires.long)) c.class-reached-found.ensures c.are-together.ensures _ c.are-together-then-are-together.ensures c.if-are-together.true c.if-not-are-together.true)
+    (is_captive cs c.args.reached.now c.args.captor c.loop-at.at _ _ (omega (arith, c.loop-at-test.true, c.requires.long)) c.class_reached-found.ensures c.are_together.ensures _ c.are_together-then-are_together.ensures c.if-are_together.true c.if-not-are_together.true)
     c.loop-at.invariant)
 
 pub loop-at-preserved : goal.loop-at-preserved
 loop-at-preserved c =
     let cs = c.args.classes.now in
     none_more (captured cs (classes_of cs c.args.reached.now) c.args.captor) 0 c.loop-at.at c.loop-at.invariant
-    (elim c.else-are-together.branch [
+    (elim c.else-are_together.branch [
       | else-are-together-via-then-are-together+else-not-are-together w ↦
-          of_own_class cs c.args.reached.now c.args.captor c.loop-at.at _ _ (omega (arith, c.loop-at-test.true, c.requires.long)) c.class-reached-found.ensures c.are-together.ensures _ w.are-together-then-are-together.ensures w.if-not-are-together.false
+          of_own_class cs c.args.reached.now c.args.captor c.loop-at.at _ _ (omega (arith, c.loop-at-test.true, c.requires.long)) c.class_reached-found.ensures c.are_together.ensures _ w.are_together-then-are_together.ensures w.if-not-are_together.false
       | else-are-together-via-else-are-together w ↦
-          reaches_another cs c.args.reached.now c.args.captor c.loop-at.at _ _ (omega (arith, c.loop-at-test.true, c.requires.long)) c.class-reached-found.ensures c.are-together.ensures w.if-are-together.false
+          reaches_another cs c.args.reached.now c.args.captor c.loop-at.at _ _ (omega (arith, c.loop-at-test.true, c.requires.long)) c.class_reached-found.ensures c.are_together.ensures w.if-are_together.false
     ])
 
 pub returns : goal.returns

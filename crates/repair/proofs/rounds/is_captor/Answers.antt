@@ -7,7 +7,7 @@ use Rattle.repair.proofs.rounds.is_captor.Goals as goal
 pub returns-then-leads : goal.returns-then-leads
 returns-then-leads c =
     let cs = c.args.classes.now in
-    captor_so cs (classes_of cs c.args.reached.now) c.args.at c.captive.result c.is-some.result c.is-some.ensures c.captive.ensures (sym c.if-leads.ensures)
+    captor_so cs (classes_of cs c.args.reached.now) c.args.at c.captive.result c.is_some.result c.is_some.ensures c.captive.ensures (sym c.if-leads.ensures)
 
 pub returns-else-leads : goal.returns-else-leads
 returns-else-leads c = c.if-leads.false ∙ sym (and_left _ _ (sym c.if-leads.ensures))

@@ -10,13 +10,13 @@ pub loop-place-preserved : goal.loop-place-preserved
 loop-place-preserved c =
     let cs = c.args.classes.now in
     let own = get_or cs c.args.captor None in
-    elim c.if-are-together.branch [
+    elim c.if-are_together.branch [
       | then-are-together w ↦
           w.entries-is
-          ∙ spelled_here own c.args.name cs c.args.entries.now c.loop-place.place c.loop-place.entries c.are-together.result c.requires.long c.loop-place-test.true c.loop-place.invariant c.are-together.ensures w.if-are-together.true
+          ∙ spelled_here own c.args.name cs c.args.entries.now c.loop-place.place c.loop-place.entries c.are_together.result c.requires.long c.loop-place-test.true c.loop-place.invariant c.are_together.ensures w.if-are_together.true
       | else-are-together w ↦
           w.entries-is
-          ∙ spelled_past own c.args.name cs c.args.entries.now c.loop-place.place c.loop-place.entries c.are-together.result c.requires.long c.loop-place-test.true c.loop-place.invariant c.are-together.ensures w.if-are-together.false
+          ∙ spelled_past own c.args.name cs c.args.entries.now c.loop-place.place c.loop-place.entries c.are_together.result c.requires.long c.loop-place-test.true c.loop-place.invariant c.are_together.ensures w.if-are_together.false
     ]
 
 pub returns : goal.returns

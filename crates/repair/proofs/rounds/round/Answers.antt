@@ -7,11 +7,11 @@ use Rattle.repair.proofs.Turns.{Turned, no_turn_yet, turn_is, turn_taken, turn_p
 use Rattle.repair.proofs.rounds.round.Goals as goal
 use Rattle.repair.proofs.rounds.round.Goals.{then-is-captor, else-is-captor}
 
-pub is-captor-requires : goal.is-captor-requires
-is-captor-requires g c = record { within = omega (arith, c.requires.long, c.loop-at-test.true); long = omega (arith, c.requires.long, c.requires.few, c.find-all.auto.reached) }
+pub is_captor-requires : goal.is_captor-requires
+is_captor-requires g c = record { within = omega (arith, c.requires.long, c.loop-at-test.true); long = omega (arith, c.requires.long, c.requires.few, c.find_all.auto.reached) }
 
-pub respell-freshly-requires : goal.respell-freshly-requires
-respell-freshly-requires g c =
+pub respell_freshly-requires : goal.respell_freshly-requires
+respell_freshly-requires g c =
     record {
       within = omega (arith, c.requires.long, c.loop-at-test.true);
       long = omega (arith, c.requires.long, c.loop-at.auto.entries);
@@ -28,14 +28,14 @@ loop-at-preserved g c =
     let es = c.args.entries.now in
     let cs = c.args.classes.now in
     let n : length (nodes es) ≡ length es = length_nodes es in
-    let turn = turn_is g.T.Language.visible cs (nodes es) c.find-all.new.reached (omega (arith, c.requires.long)) (omega (arith, c.requires.few)) (omega (arith, c.find-all.auto.reached)) c.find-all.ensures c.loop-at.at c.is-captor.result c.is-captor.ensures in
-    elim c.if-is-captor.branch [
+    let turn = turn_is g.T.Language.visible cs (nodes es) c.find_all.new.reached (omega (arith, c.requires.long)) (omega (arith, c.requires.few)) (omega (arith, c.find_all.auto.reached)) c.find_all.ensures c.loop-at.at c.is_captor.result c.is_captor.ensures in
+    elim c.if-is_captor.branch [
       | then-is-captor w ↦ (
-        turn_taken cs es _ c.loop-at.at c.loop-at.entries c.loop-at.found c.loop-at.invariant.0 w.respell-freshly.new.entries _ _ (turn ∙ w.if-is-captor.true) w.respell-freshly.ensures.after w.entries-is w.found-is,
-        w.words-is ∙ (w.respell-freshly.ensures.clear ∙ ap (λ (k : ℕ). replicate k 0) c.loop-at.auto.words),
+        turn_taken cs es _ c.loop-at.at c.loop-at.entries c.loop-at.found c.loop-at.invariant.0 w.respell_freshly.new.entries _ _ (turn ∙ w.if-is_captor.true) w.respell_freshly.ensures.after w.entries-is w.found-is,
+        w.words-is ∙ (w.respell_freshly.ensures.clear ∙ ap (λ (k : ℕ). replicate k 0) c.loop-at.auto.words),
       )
       | else-is-captor w ↦ (
-        turn_passed cs es _ c.loop-at.at c.loop-at.entries c.loop-at.found c.loop-at.invariant.0 _ _ (turn ∙ w.if-is-captor.false) w.entries-is w.found-is,
+        turn_passed cs es _ c.loop-at.at c.loop-at.entries c.loop-at.found c.loop-at.invariant.0 _ _ (turn ∙ w.if-is_captor.false) w.entries-is w.found-is,
         w.words-is ∙ c.loop-at.invariant.1,
       )
     ]

@@ -13,7 +13,7 @@ loop-wanted-preserved c =
     let at = c.loop-wanted.at in
     let long = length_nodes es in
     let fits : length es ≤ 2 ^ 64 - 1 = omega arith in
-    ap (beyond (nodes es) (at + 1)) (c.min-wanted.ensures ∙ ap (λ n. min n (length es)) c.saturating-add.ensures)
+    ap (beyond (nodes es) (at + 1)) (c.min-wanted.ensures ∙ ap (λ n. min n (length es)) c.saturating_add.ensures)
     ∙ (wanted_on (nodes es) at c.loop-wanted.wanted c.arity-below.result (2 ^ 64 - 1) (length es) (omega (arith, long, c.if-at-program.true)) c.loop-wanted-test.true (c.arity-below.ensures ∙ ap arity (node_of es at)) (omega (arith, long)) fits
     ∙ c.loop-wanted.invariant)
 

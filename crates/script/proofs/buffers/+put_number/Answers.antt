@@ -15,27 +15,27 @@ returns-then-n-lt10 t c =
       after = paste_one c.args.out.now c.args.from (48 + c.args.n) (omega (arith, ap length e, c.requires)) ∙ ap (pasted c.args.out.now c.args.from) (sym e);
     }
 
-pub put-number-at-requires : goal.put-number-at-requires
-put-number-at-requires t c = (omega (arith, c.decreases), omega (arith, longer c.args.n c.if-n-lt10.false c.ranges.n.fits, c.requires))
+pub put_number-at-requires : goal.put_number-at-requires
+put_number-at-requires t c = (omega (arith, c.decreases), omega (arith, longer c.args.n c.if-n-lt10.false c.ranges.n.fits, c.requires))
 
 pub bounds-out-at : goal.bounds-out-at
 bounds-out-at t c =
-    omega (arith, longer c.args.n c.if-n-lt10.false c.ranges.n.fits, c.requires, c.put-number-at.ensures.end, c.put-number-at.auto.out)
+    omega (arith, longer c.args.n c.if-n-lt10.false c.ranges.n.fits, c.requires, c.put_number-at.ensures.end, c.put_number-at.auto.out)
 
 pub overflow-add-result-2 : goal.overflow-add-result-2
 overflow-add-result-2 t c =
-    record { fits = omega (arith, longer c.args.n c.if-n-lt10.false c.ranges.n.fits, c.requires, c.put-number-at.ensures.end, c.well-formed.0) }
+    record { fits = omega (arith, longer c.args.n c.if-n-lt10.false c.ranges.n.fits, c.requires, c.put_number-at.ensures.end, c.well-formed.0) }
 
 pub returns : goal.returns
 returns t c =
     let n = c.args.n in
     let d = c.args.out.now in
     let a = c.args.from in
-    let old = c.put-number-at.ensures in
+    let old = c.put_number-at.ensures in
     let more = longer n c.if-n-lt10.false c.ranges.n.fits in
     let x = 48 + n % 10 in
     let room : a + length (decimal (n / 10)) < length d = omega (arith, more, c.requires) in
     record {
       end = omega (arith, more, old.end);
-      after = ap (λ l. set l c.put-number-at.result x) old.after ∙ ap (λ k. set (pasted d a (decimal (n / 10))) k x) old.end ∙ paste_more d a (decimal (n / 10)) x room ∙ ap (pasted d a) (sym (decimal_step n c.if-n-lt10.false (omega arith)));
+      after = ap (λ l. set l c.put_number-at.result x) old.after ∙ ap (λ k. set (pasted d a (decimal (n / 10))) k x) old.end ∙ paste_more d a (decimal (n / 10)) x room ∙ ap (pasted d a) (sym (decimal_step n c.if-n-lt10.false (omega arith)));
     }

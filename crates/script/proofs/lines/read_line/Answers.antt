@@ -7,25 +7,25 @@ use Rattle.script.proofs.lines.read_line.Goals as goal
 pub returns-in-err-kind : goal.returns-in-err-kind
 returns-in-err-kind c =
     rw c.from-residual.ensures
-    (sym (line_no_kind (form_of c.args.form) c.args.line.now c.find-word-end.result c.find-word-end.ensures.is (sym c.kind-of.ensures ∙ c.in-err-kind.was)))
+    (sym (line_no_kind (form_of c.args.form) c.args.line.now c.find-word_end.result c.find-word_end.ensures.is (sym c.kind_of.ensures ∙ c.in-err-kind.was)))
 
 pub returns-in-err-named : goal.returns-in-err-named
 returns-in-err-named c =
     rw c.from-residual-in-err-named.ensures
-    (sym (line_no_name (form_of c.args.form) c.args.line.now c.find-word-end.result c.find-word-end.ensures.is c.in-ok-kind.kind c.row-kind-row.result.now (sym c.kind-of.ensures ∙ c.in-ok-kind.was) c.row-kind-row.ensures
+    (sym (line_no_name (form_of c.args.form) c.args.line.now c.find-word_end.result c.find-word_end.ensures.is c.in-ok-kind.kind c.row-kind_row.result.now (sym c.kind_of.ensures ∙ c.in-ok-kind.was) c.row-kind_row.ensures
     c.in-err-named.ensures))
 
 pub returns-in-err-numbered : goal.returns-in-err-numbered
 returns-in-err-numbered c =
     rw c.from-residual-in-err-numbered.ensures
-    (sym (line_no_number (form_of c.args.form) c.args.line.now c.find-word-end.result c.find-word-end.ensures.is c.in-ok-kind.kind c.row-kind-row.result.now (sym c.kind-of.ensures ∙ c.in-ok-kind.was) c.row-kind-row.ensures
+    (sym (line_no_number (form_of c.args.form) c.args.line.now c.find-word_end.result c.find-word_end.ensures.is c.in-ok-kind.kind c.row-kind_row.result.now (sym c.kind_of.ensures ∙ c.in-ok-kind.was) c.row-kind_row.ensures
     c.in-ok-named.named.value (fields_from (drop c.in-ok-named.named.at c.args.line.now)) c.in-ok-named.ensures.0
     c.in-err-numbered.ensures))
 
 pub returns-in-err-traced : goal.returns-in-err-traced
 returns-in-err-traced c =
     rw c.from-residual-in-err-traced.ensures
-    (sym (line_no_origin (form_of c.args.form) c.args.line.now c.find-word-end.result c.find-word-end.ensures.is c.in-ok-kind.kind c.row-kind-row.result.now (sym c.kind-of.ensures ∙ c.in-ok-kind.was) c.row-kind-row.ensures
+    (sym (line_no_origin (form_of c.args.form) c.args.line.now c.find-word_end.result c.find-word_end.ensures.is c.in-ok-kind.kind c.row-kind_row.result.now (sym c.kind_of.ensures ∙ c.in-ok-kind.was) c.row-kind_row.ensures
     c.in-ok-named.named.value (fields_from (drop c.in-ok-named.named.at c.args.line.now)) c.in-ok-named.ensures.0
     c.in-ok-numbered.numbered.value (fields_from (drop c.in-ok-numbered.numbered.at c.args.line.now)) c.in-ok-numbered.ensures.0
     c.in-err-traced.ensures))
@@ -34,7 +34,7 @@ pub returns-then-traced-line : goal.returns-then-traced-line
 returns-then-traced-line c =
     let line = c.args.line.now in
     let at = c.in-ok-traced.traced.at in
-    sym (line_over (form_of c.args.form) line c.find-word-end.result c.find-word-end.ensures.is c.in-ok-kind.kind c.row-kind-row.result.now (sym c.kind-of.ensures ∙ c.in-ok-kind.was) c.row-kind-row.ensures
+    sym (line_over (form_of c.args.form) line c.find-word_end.result c.find-word_end.ensures.is c.in-ok-kind.kind c.row-kind_row.result.now (sym c.kind_of.ensures ∙ c.in-ok-kind.was) c.row-kind_row.ensures
     c.in-ok-named.named.value (fields_from (drop c.in-ok-named.named.at line)) c.in-ok-named.ensures.0
     c.in-ok-numbered.numbered.value (fields_from (drop c.in-ok-numbered.numbered.at line)) c.in-ok-numbered.ensures.0
     c.in-ok-traced.traced.value (fields_from (drop at line)) c.in-ok-traced.ensures.0
@@ -44,7 +44,7 @@ pub returns : goal.returns
 returns c =
     let line = c.args.line.now in
     let at = c.in-ok-traced.traced.at in
-    sym (line_done (form_of c.args.form) line c.find-word-end.result c.find-word-end.ensures.is c.in-ok-kind.kind c.row-kind-row.result.now (sym c.kind-of.ensures ∙ c.in-ok-kind.was) c.row-kind-row.ensures
+    sym (line_done (form_of c.args.form) line c.find-word_end.result c.find-word_end.ensures.is c.in-ok-kind.kind c.row-kind_row.result.now (sym c.kind_of.ensures ∙ c.in-ok-kind.was) c.row-kind_row.ensures
     c.in-ok-named.named.value (fields_from (drop c.in-ok-named.named.at line)) c.in-ok-named.ensures.0
     c.in-ok-numbered.numbered.value (fields_from (drop c.in-ok-numbered.numbered.at line)) c.in-ok-numbered.ensures.0
     c.in-ok-traced.traced.value (fields_from (drop at line)) c.in-ok-traced.ensures.0

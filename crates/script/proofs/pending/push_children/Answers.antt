@@ -7,8 +7,8 @@ use Rattle.model.proofs.TableRows.{sorts_are}
 use Rattle.script.proofs.Stacks.{children_few}
 use Rattle.script.proofs.pending.push_children.Goals as goal
 
-pub push-all-requires : goal.push-all-requires
-push-all-requires c = omega (arith, c.requires, leb-true (length c.in-Exactly.sorts.now) 3 (children_few c.row.result.now c.args.kind (Exactly c.in-Exactly.sorts) c.row.ensures c.in-Exactly.is))
+pub push_all-requires : goal.push_all-requires
+push_all-requires c = omega (arith, c.requires, leb-true (length c.in-Exactly.sorts.now) 3 (children_few c.row.result.now c.args.kind (Exactly c.in-Exactly.sorts) c.row.ensures c.in-Exactly.is))
 
 pub returns-in-AsMany : goal.returns-in-AsMany
 returns-in-AsMany c =
@@ -20,6 +20,6 @@ returns-in-AsMany c =
 pub returns-in-Exactly : goal.returns-in-Exactly
 returns-in-Exactly c =
     record {
-      end = omega (arith, c.push-all.ensures.end, leb-true (length c.in-Exactly.sorts.now) 3 (children_few c.row.result.now c.args.kind (Exactly c.in-Exactly.sorts) c.row.ensures c.in-Exactly.is));
-      after = c.push-all.ensures.after ∙ ap (λ (l : List Sort). l ++ to_come c.args.runs.now c.args.top) (sorts_are c.row.result.now c.args.kind c.args.number (Exactly c.in-Exactly.sorts) c.row.ensures c.in-Exactly.is);
+      end = omega (arith, c.push_all.ensures.end, leb-true (length c.in-Exactly.sorts.now) 3 (children_few c.row.result.now c.args.kind (Exactly c.in-Exactly.sorts) c.row.ensures c.in-Exactly.is));
+      after = c.push_all.ensures.after ∙ ap (λ (l : List Sort). l ++ to_come c.args.runs.now c.args.top) (sorts_are c.row.result.now c.args.kind c.args.number (Exactly c.in-Exactly.sorts) c.row.ensures c.in-Exactly.is);
     }

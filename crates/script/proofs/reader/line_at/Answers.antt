@@ -9,11 +9,11 @@ returns-then-end-text c = first_none (form_of c.args.form) c.args.text.now c.arg
 pub returns-in-err-entry : goal.returns-in-err-entry
 returns-in-err-entry c =
     rw c.from-residual.ensures
-    (first_some (form_of c.args.form) c.args.text.now c.args.from c.find-end.result None c.find-end.ensures.is (omega (arith, c.find-end.ensures.within, c.if-end-text.false)) (sym c.read-line.ensures ∙ c.in-err-entry.was))
+    (first_some (form_of c.args.form) c.args.text.now c.args.from c.find-end.result None c.find-end.ensures.is (omega (arith, c.find-end.ensures.within, c.if-end-text.false)) (sym c.read_line.ensures ∙ c.in-err-entry.was))
 
 pub returns : goal.returns
 returns c = (
-  first_some (form_of c.args.form) c.args.text.now c.args.from c.find-end.result (Some c.in-ok-entry.entry) c.find-end.ensures.is (omega (arith, c.find-end.ensures.within, c.if-end-text.false)) (sym c.read-line.ensures ∙ c.in-ok-entry.was),
+  first_some (form_of c.args.form) c.args.text.now c.args.from c.find-end.result (Some c.in-ok-entry.entry) c.find-end.ensures.is (omega (arith, c.find-end.ensures.within, c.if-end-text.false)) (sym c.read_line.ensures ∙ c.in-ok-entry.was),
   omega (arith, c.find-end.ensures.is),
   omega (arith, c.find-end.ensures.within, c.if-end-text.false),
 )

@@ -4,8 +4,8 @@ use Rattle.script.proofs.reader.read_draft.Goals as goal
 
 pub returns : goal.returns
 returns g c =
-    let e = c.read-form.ensures in
-    let t = draft_trip g.G.Grammar.grammar c.args.text.now c.args.row.now c.read-form.new.row c.read-form.result e.value e.after in
+    let e = c.read_form.ensures in
+    let t = draft_trip g.G.Grammar.grammar c.args.text.now c.args.row.now c.read_form.new.row c.read_form.result e.value e.after in
     record {
       value = e.value;
       after = e.after;

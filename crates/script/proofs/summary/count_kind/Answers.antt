@@ -9,10 +9,10 @@ use Rattle.script.proofs.summary.count_kind.Goals.{then-same-kind, else-same-kin
 
 pub loop-entry-preserved : goal.loop-entry-preserved
 loop-entry-preserved c =
-    elim c.if-same-kind.branch [
-      | then-same-kind w ↦ let n = counts_one c.args.kind c.args.program.now c.loop-entry.entry-index blank_entry c.loop-entry-test.true (sym c.same-kind.ensures ∙ w.if-same-kind.true) in
+    elim c.if-same_kind.branch [
+      | then-same-kind w ↦ let n = counts_one c.args.kind c.args.program.now c.loop-entry.entry-index blank_entry c.loop-entry-test.true (sym c.same_kind.ensures ∙ w.if-same_kind.true) in
           (omega (arith, n, w.count-is, c.loop-entry.invariant.0), omega (arith, w.count-is, c.loop-entry.invariant.1))
-      | else-same-kind w ↦ let n = counts_none c.args.kind c.args.program.now c.loop-entry.entry-index blank_entry c.loop-entry-test.true (sym c.same-kind.ensures ∙ w.if-same-kind.false) in
+      | else-same-kind w ↦ let n = counts_none c.args.kind c.args.program.now c.loop-entry.entry-index blank_entry c.loop-entry-test.true (sym c.same_kind.ensures ∙ w.if-same_kind.false) in
           (omega (arith, n, w.count-is, c.loop-entry.invariant.0), omega (arith, w.count-is, c.loop-entry.invariant.1))
     ]
 

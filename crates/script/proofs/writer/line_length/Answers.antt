@@ -5,10 +5,10 @@ use Rattle.script.proofs.writer.line_length.Goals as goal
 pub returns : goal.returns
 returns c =
     let n = c.args.entry.now in
-    let x = c.row-kind-row.result.now in
-    let e = length_line x n c.row-kind-row.ensures in
-    let w = word_short x n c.row-kind-row.ensures in
+    let x = c.row-kind_row.result.now in
+    let e = length_line x n c.row-kind_row.ensures in
+    let w = word_short x n c.row-kind_row.ensures in
     record {
-      is = omega (arith, e, c.name-field-length.ensures.is, c.number-field-length.ensures.is);
-      small = omega (arith, w, c.name-field-length.ensures.small, c.number-field-length.ensures.small);
+      is = omega (arith, e, c.name_field_length.ensures.is, c.number_field_length.ensures.is);
+      small = omega (arith, w, c.name_field_length.ensures.small, c.number_field_length.ensures.small);
     }

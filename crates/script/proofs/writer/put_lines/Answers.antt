@@ -21,14 +21,14 @@ next_node p i d o o₁ o₂ k r h l e₁ p₁ e₂ p₂ =
       two_puts o o₁ o₂ 0 k (write_lines plain (take i p)) (write_line plain (get_or p i d)) (omega (arith, front_short p i)) p₁ (omega arith) p₂ ∙ ap (pasted o 0) (sym f),
     )
 
-pub put-line-at-requires : goal.put-line-at-requires
-put-line-at-requires c =
+pub put_line-at-requires : goal.put_line-at-requires
+put_line-at-requires c =
     room c.args.entries.now c.loop-entry.entry-index _ _ c.loop-entry.at (omega (arith, c.loop-entry-test.true)) (omega (arith, c.requires, c.loop-entry.auto.out)) c.loop-entry.invariant.0
 
 pub loop-entry-preserved : goal.loop-entry-preserved
 loop-entry-preserved c =
-    next_node c.args.entries.now c.loop-entry.entry-index _ c.args.out.now c.loop-entry.out c.put-line-at.new.out c.loop-entry.at c.put-line-at.result
-    c.loop-entry-test.true c.requires c.loop-entry.invariant.0 c.loop-entry.invariant.1 c.put-line-at.ensures.end c.put-line-at.ensures.after
+    next_node c.args.entries.now c.loop-entry.entry-index _ c.args.out.now c.loop-entry.out c.put_line-at.new.out c.loop-entry.at c.put_line-at.result
+    c.loop-entry-test.true c.requires c.loop-entry.invariant.0 c.loop-entry.invariant.1 c.put_line-at.ensures.end c.put_line-at.ensures.after
 
 pub returns : goal.returns
 returns c =

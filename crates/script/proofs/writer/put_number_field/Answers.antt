@@ -12,6 +12,6 @@ returns-in-None c =
 pub returns-in-Some : goal.returns-in-Some
 returns-in-Some c =
     let n = c.args.n in
-    let p = put_byte_then c.args.out.now c.put-byte-at.new.out c.put-number.new.out c.args.from c.put-byte-at.result c.put-number.result 9 (decimal n) (number_text c.args.most n)
-    (ap (λ (o : Option ℕ). number_text o n) c.in-Some.is) c.requires c.put-byte-at.ensures.after c.put-byte-at.ensures.end c.put-number.ensures.after c.put-number.ensures.end in
+    let p = put_byte_then c.args.out.now c.put_byte-at.new.out c.put_number.new.out c.args.from c.put_byte-at.result c.put_number.result 9 (decimal n) (number_text c.args.most n)
+    (ap (λ (o : Option ℕ). number_text o n) c.in-Some.is) c.requires c.put_byte-at.ensures.after c.put_byte-at.ensures.end c.put_number.ensures.after c.put_number.ensures.end in
     record { end = p.0; after = p.1 }

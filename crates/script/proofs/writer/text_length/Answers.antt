@@ -8,8 +8,8 @@ use Rattle.script.proofs.writer.text_length.Goals as goal
 
 pub loop-entry-preserved : goal.loop-entry-preserved
 loop-entry-preserved c =
-    let m = text_more c.args.entries.now c.loop-entry.entry-index _ c.line-length-sum.result c.loop-entry-test.true c.line-length-sum.ensures.is in
-    (omega (arith, c.loop-entry.invariant.0, c.line-length-sum.ensures.small), omega (arith, c.loop-entry.invariant.1, m))
+    let m = text_more c.args.entries.now c.loop-entry.entry-index _ c.line_length-sum.result c.loop-entry-test.true c.line_length-sum.ensures.is in
+    (omega (arith, c.loop-entry.invariant.0, c.line_length-sum.ensures.small), omega (arith, c.loop-entry.invariant.1, m))
 
 pub returns : goal.returns
 returns c =

@@ -23,23 +23,23 @@ returns-then-at-next c =
     let name = (entry_at es c.args.at).node.name in
     sym
     (named_there card_scopes es c.args.at
-    ∙ stops_in_own_line es c.args.at name c.requires c.arity-turn-end.result c.loop-turn.-turn c.loop-turn.line c.next-tree-next.result c.loop-turn.latest
-    c.loop-turn-test.true c.next-tree-next.ensures c.loop-turn.invariant c.if-at-next.true)
+    ∙ stops_in_own_line es c.args.at name c.requires c.arity-turn-end.result c.loop-turn.-turn c.loop-turn.line c.next_tree-next.result c.loop-turn.latest
+    c.loop-turn-test.true c.next_tree-next.ensures c.loop-turn.invariant c.if-at-next.true)
 
 pub loop-turn-preserved : goal.loop-turn-preserved
 loop-turn-preserved c =
     let es = c.args.program.now in
     let name = (entry_at es c.args.at).node.name in
-    let P : Option ℕ → Type 0 = λ last. Passed (nodes es) c.args.at name c.next-tree-next.result (c.arity-turn-end.result - (c.loop-turn.-turn + 1)) last in
-    elim c.if-declares-as.branch [
+    let P : Option ℕ → Type 0 = λ last. Passed (nodes es) c.args.at name c.next_tree-next.result (c.arity-turn-end.result - (c.loop-turn.-turn + 1)) last in
+    elim c.if-declares_as.branch [
       | then-declares-as w ↦
           subst P (sym w.latest_is)
-          (goes_on_declared es c.args.at name c.requires c.arity-turn-end.result c.loop-turn.-turn c.loop-turn.line c.next-tree-next.result c.loop-turn.latest
-          c.loop-turn-test.true c.next-tree-next.ensures c.loop-turn.invariant c.if-at-next.false c.declares-as.result c.declares-as.ensures w.if-declares-as.true)
+          (goes_on_declared es c.args.at name c.requires c.arity-turn-end.result c.loop-turn.-turn c.loop-turn.line c.next_tree-next.result c.loop-turn.latest
+          c.loop-turn-test.true c.next_tree-next.ensures c.loop-turn.invariant c.if-at-next.false c.declares_as.result c.declares_as.ensures w.if-declares_as.true)
       | else-declares-as w ↦
           subst P (sym w.latest_is)
-          (goes_on_undeclared es c.args.at name c.requires c.arity-turn-end.result c.loop-turn.-turn c.loop-turn.line c.next-tree-next.result c.loop-turn.latest
-          c.loop-turn-test.true c.next-tree-next.ensures c.loop-turn.invariant c.if-at-next.false c.declares-as.result c.declares-as.ensures w.if-declares-as.false)
+          (goes_on_undeclared es c.args.at name c.requires c.arity-turn-end.result c.loop-turn.-turn c.loop-turn.line c.next_tree-next.result c.loop-turn.latest
+          c.loop-turn-test.true c.next_tree-next.ensures c.loop-turn.invariant c.if-at-next.false c.declares_as.result c.declares_as.ensures w.if-declares_as.false)
     ]
 
 pub returns : goal.returns

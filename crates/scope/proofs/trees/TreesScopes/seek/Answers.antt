@@ -22,22 +22,22 @@ pub loop-up-preserved : goal.loop-up-preserved
 loop-up-preserved c =
     let es = c.args.program.now in
     let name = (entry_at es c.args.at).node.name in
-    elim c.else-in-last-child.branch [
+    elim c.else-in_last_child.branch [
       | else-in-last-child-via-then-in-last-child+else-scopes-as w ↦
           goes_up_unlike es c.args.at c.loop-up.up c.loop-up.between c.arity-arity.result c.loop-up-test.true c.loop-up.auto.up c.requires
-          name c.arity-arity.ensures c.loop-up.invariant c.if-arity-between.false w.if-in-last-child.true w.scopes-as.result w.scopes-as.ensures w.if-scopes-as.false
+          name c.arity-arity.ensures c.loop-up.invariant c.if-arity-between.false w.if-in_last_child.true w.scopes_as.result w.scopes_as.ensures w.if-scopes_as.false
       | else-in-last-child-via-else-in-last-child w ↦
           goes_up_from_first es c.args.at c.loop-up.up c.loop-up.between c.arity-arity.result c.loop-up-test.true c.loop-up.auto.up c.requires
-          name c.arity-arity.ensures c.loop-up.invariant c.if-arity-between.false w.if-in-last-child.false
+          name c.arity-arity.ensures c.loop-up.invariant c.if-arity-between.false w.if-in_last_child.false
     ]
 
-pub returns-then-scopes-as : goal.returns-then-scopes-as
-returns-then-scopes-as c =
+pub returns-then-scopes_as : goal.returns-then-scopes_as
+returns-then-scopes_as c =
     let es = c.args.program.now in
     sym
     (named_there tree_scopes es c.args.at
     ∙ goes_up_to es c.args.at c.loop-up.up c.loop-up.between c.arity-arity.result c.loop-up-test.true c.loop-up.auto.up c.requires
-    (entry_at es c.args.at).node.name c.arity-arity.ensures c.loop-up.invariant c.if-arity-between.false c.if-in-last-child.true c.scopes-as.result c.scopes-as.ensures c.if-scopes-as.true)
+    (entry_at es c.args.at).node.name c.arity-arity.ensures c.loop-up.invariant c.if-arity-between.false c.if-in_last_child.true c.scopes_as.result c.scopes_as.ensures c.if-scopes_as.true)
 
 pub returns : goal.returns
 returns c =
