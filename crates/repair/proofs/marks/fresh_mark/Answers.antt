@@ -13,7 +13,7 @@ returns-then-is_in_use c =
     let used = marks c.args.name.now (nodes c.args.program.now) in
     let few = marks_few c.args.name.now c.args.program.now in
     record {
-      value = next_used used (omega (arith, c.requires.few)) (row_full _ used c.note_marks.ensures.shows c.in-default.ensures) (sym c.if-is_in_use.ensures);
+      value = next_used used (omega (arith, c.requires.few)) (row_full _ used c.note_marks.ensures.shows c.in_default.ensures) (sym c.if-is_in_use.ensures);
       clear = search rules;
     }
 
@@ -21,6 +21,6 @@ pub returns : goal.returns
 returns c =
     let used = marks c.args.name.now (nodes c.args.program.now) in
     record {
-      value = next_free used (row_full _ used c.note_marks.ensures.shows c.in-default.ensures) (sym c.if-is_in_use.ensures);
+      value = next_free used (row_full _ used c.note_marks.ensures.shows c.in_default.ensures) (sym c.if-is_in_use.ensures);
       clear = search rules;
     }

@@ -3,7 +3,7 @@ use Rattle.repair.specs.Rounds.{classes_of, captured}
 use Rattle.repair.proofs.Captors.{none_more, is_captive, of_own_class, reaches_another}
 use Rattle.repair.proofs.Firsts.{first_found, none_found}
 use Rattle.repair.proofs.rounds.captive.Goals as goal
-use Rattle.repair.proofs.rounds.captive.Goals.{else-are-together-via-then-are-together+else-not-are-together, else-are-together-via-else-are-together}
+use Rattle.repair.proofs.rounds.captive.Goals.{else-are_together-via-then-are_together+else-not-are_together, else-are_together-via-else-are_together}
 
 pub loop-at-init : goal.loop-at-init
 loop-at-init c = λ m p q. absurd (omega arith)
@@ -20,9 +20,9 @@ loop-at-preserved c =
     let cs = c.args.classes.now in
     none_more (captured cs (classes_of cs c.args.reached.now) c.args.captor) 0 c.loop-at.at c.loop-at.invariant
     (elim c.else-are_together.branch [
-      | else-are-together-via-then-are-together+else-not-are-together w ↦
+      | else-are_together-via-then-are_together+else-not-are_together w ↦
           of_own_class cs c.args.reached.now c.args.captor c.loop-at.at _ _ (omega (arith, c.loop-at-test.true, c.requires.long)) c.class_reached-found.ensures c.are_together.ensures _ w.are_together-then-are_together.ensures w.if-not-are_together.false
-      | else-are-together-via-else-are-together w ↦
+      | else-are_together-via-else-are_together w ↦
           reaches_another cs c.args.reached.now c.args.captor c.loop-at.at _ _ (omega (arith, c.loop-at-test.true, c.requires.long)) c.class_reached-found.ensures c.are_together.ensures w.if-are_together.false
     ])
 

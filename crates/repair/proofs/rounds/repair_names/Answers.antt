@@ -20,8 +20,8 @@ loop-count-preserved g c = (
   c.round.ensures.clear ∙ ap (λ (n : ℕ). replicate n 0) c.loop-count.auto.words,
 )
 
-pub overflow-add-count : goal.overflow-add-count
-overflow-add-count g c =
+pub overflow_add-count : goal.overflow_add-count
+overflow_add-count g c =
     omega (
       arith,
       c.requires.long,

@@ -1,7 +1,7 @@
 use Rattle.std.proofs.Common.{get_or, None, refl, ◌∙◌}
 use Rattle.repair.proofs.Origins.{spelled_here, spelled_past, spelled_all}
 use Rattle.repair.proofs.rounds.respell.Goals as goal
-use Rattle.repair.proofs.rounds.respell.Goals.{then-are-together, else-are-together}
+use Rattle.repair.proofs.rounds.respell.Goals.{then-are_together, else-are_together}
 
 pub loop-place-init : goal.loop-place-init
 loop-place-init c = refl
@@ -11,10 +11,10 @@ loop-place-preserved c =
     let cs = c.args.classes.now in
     let own = get_or cs c.args.captor None in
     elim c.if-are_together.branch [
-      | then-are-together w ↦
+      | then-are_together w ↦
           w.entries-is
           ∙ spelled_here own c.args.name cs c.args.entries.now c.loop-place.place c.loop-place.entries c.are_together.result c.requires.long c.loop-place-test.true c.loop-place.invariant c.are_together.ensures w.if-are_together.true
-      | else-are-together w ↦
+      | else-are_together w ↦
           w.entries-is
           ∙ spelled_past own c.args.name cs c.args.entries.now c.loop-place.place c.loop-place.entries c.are_together.result c.requires.long c.loop-place-test.true c.loop-place.invariant c.are_together.ensures w.if-are_together.false
     ]

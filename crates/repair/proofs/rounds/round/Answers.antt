@@ -5,7 +5,7 @@ use Rattle.laws.proofs.RoundTrips.{length_nodes}
 use Rattle.promise.proofs.Respelling.{has_turn}
 use Rattle.repair.proofs.Turns.{Turned, no_turn_yet, turn_is, turn_taken, turn_passed}
 use Rattle.repair.proofs.rounds.round.Goals as goal
-use Rattle.repair.proofs.rounds.round.Goals.{then-is-captor, else-is-captor}
+use Rattle.repair.proofs.rounds.round.Goals.{then-is_captor, else-is_captor}
 
 pub is_captor-requires : goal.is_captor-requires
 is_captor-requires g c = record { within = omega (arith, c.requires.long, c.loop-at-test.true); long = omega (arith, c.requires.long, c.requires.few, c.find_all.auto.reached) }
@@ -30,11 +30,11 @@ loop-at-preserved g c =
     let n : length (nodes es) ≡ length es = length_nodes es in
     let turn = turn_is g.T.Language.visible cs (nodes es) c.find_all.new.reached (omega (arith, c.requires.long)) (omega (arith, c.requires.few)) (omega (arith, c.find_all.auto.reached)) c.find_all.ensures c.loop-at.at c.is_captor.result c.is_captor.ensures in
     elim c.if-is_captor.branch [
-      | then-is-captor w ↦ (
+      | then-is_captor w ↦ (
         turn_taken cs es _ c.loop-at.at c.loop-at.entries c.loop-at.found c.loop-at.invariant.0 w.respell_freshly.new.entries _ _ (turn ∙ w.if-is_captor.true) w.respell_freshly.ensures.after w.entries-is w.found-is,
         w.words-is ∙ (w.respell_freshly.ensures.clear ∙ ap (λ (k : ℕ). replicate k 0) c.loop-at.auto.words),
       )
-      | else-is-captor w ↦ (
+      | else-is_captor w ↦ (
         turn_passed cs es _ c.loop-at.at c.loop-at.entries c.loop-at.found c.loop-at.invariant.0 _ _ (turn ∙ w.if-is_captor.false) w.entries-is w.found-is,
         w.words-is ∙ c.loop-at.invariant.1,
       )

@@ -22,9 +22,9 @@ pub bounds-out-at : goal.bounds-out-at
 bounds-out-at t c =
     omega (arith, longer c.args.n c.if-n-lt10.false c.ranges.n.fits, c.requires, c.put_number-at.ensures.end, c.put_number-at.auto.out)
 
-pub overflow-add-result-2 : goal.overflow-add-result-2
-overflow-add-result-2 t c =
-    record { fits = omega (arith, longer c.args.n c.if-n-lt10.false c.ranges.n.fits, c.requires, c.put_number-at.ensures.end, c.well-formed.0) }
+pub overflow_add-result-2 : goal.overflow_add-result-2
+overflow_add-result-2 t c =
+    record { fits = omega (arith, longer c.args.n c.if-n-lt10.false c.ranges.n.fits, c.requires, c.put_number-at.ensures.end, c.well_formed.0) }
 
 pub returns : goal.returns
 returns t c =

@@ -6,8 +6,8 @@ use Rattle.script.specs.Cuts.{at_most}
 use Rattle.script.proofs.FieldParts.{a_digit, value_ge, value_more}
 use Rattle.script.proofs.fields.value_of.Goals as goal
 
-pub overflow-sub-n : goal.overflow-sub-n
-overflow-sub-n c = omega (arith, (a_digit c.args.digits.now c.loop-b.b-index c.requires c.loop-b-test.true).0)
+pub overflow_sub-n : goal.overflow_sub-n
+overflow_sub-n c = omega (arith, (a_digit c.args.digits.now c.loop-b.b-index c.requires c.loop-b-test.true).0)
 
 pub returns-then-n-most : goal.returns-then-n-most
 returns-then-n-most c =

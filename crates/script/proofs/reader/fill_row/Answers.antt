@@ -10,12 +10,12 @@ pub returns-then-text-gt-LONGEST_TEXT : goal.returns-then-text-gt-LONGEST_TEXT
 returns-then-text-gt-LONGEST_TEXT g c =
     text_long g.G.Grammar.grammar (form_of c.args.form) c.args.text.now c.args.row.now _ c.if-row-lt-MOST_NODES.false c.if-text-gt-LONGEST_TEXT.true
 
-pub returns-in-err-count : goal.returns-in-err-count
-returns-in-err-count g c =
-    let p = err_from_is_err_and c.from-residual.result c.from-residual.ensures.1 in
+pub returns-in_err-count : goal.returns-in_err-count
+returns-in_err-count g c =
+    let p = err_from_is_err_and c.from_residual.result c.from_residual.ensures.1 in
     rw (p.1, p.2)
-    (lines_refused g.G.Grammar.grammar (form_of c.args.form) c.args.text.now c.args.row.now c.read_lines.new.row c.in-err-count.field-0.0 c.if-row-lt-MOST_NODES.false c.if-text-gt-LONGEST_TEXT.false c.in-err-count.ensures)
+    (lines_refused g.G.Grammar.grammar (form_of c.args.form) c.args.text.now c.args.row.now c.read_lines.new.row c.in_err-count.field-0.0 c.if-row-lt-MOST_NODES.false c.if-text-gt-LONGEST_TEXT.false c.in_err-count.ensures)
 
 pub returns : goal.returns
 returns g c =
-    lines_read g.G.Grammar.grammar (form_of c.args.form) c.args.text.now c.args.row.now c.read_lines.new.row c.in-ok-count.count c.if-row-lt-MOST_NODES.false c.if-text-gt-LONGEST_TEXT.false c.in-ok-count.ensures
+    lines_read g.G.Grammar.grammar (form_of c.args.form) c.args.text.now c.args.row.now c.read_lines.new.row c.in_ok-count.count c.if-row-lt-MOST_NODES.false c.if-text-gt-LONGEST_TEXT.false c.in_ok-count.ensures

@@ -21,13 +21,13 @@ returns-then-count-eq-MOST_NODES g c =
     too_many _ g.G.Grammar.grammar (form_of c.args.form) c.loop-from.root c.args.row.now c.loop-from.row (to_come c.loop-from.runs c.loop-from.top) c.loop-from.count c.loop-from.from c.args.text.now v.5
     c.loop-from-test.true (record { first = t.first; more = t.more; are = sym c.settle-height.ensures.same ∙ t.are }) c.if-count-eq-MOST_NODES.true
 
-pub returns-in-default : goal.returns-in-default
-returns-in-default g c =
+pub returns-in_default : goal.returns-in_default
+returns-in_default g c =
     let v = c.loop-from.invariant in
     let p : 0 < c.settle-height.result = omega (arith, c.if-height-eq0.false) in
     let t = comes c.loop-from.runs c.settle-height.result p (omega (arith, v.0, v.2, v.3, c.settle-height.ensures.within)) (c.settle-height.ensures.some p) in
     wrong_line _ g.G.Grammar.grammar (form_of c.args.form) c.loop-from.root c.args.row.now c.loop-from.row (to_come c.loop-from.runs c.loop-from.top) c.loop-from.count c.loop-from.from c.args.text.now v.5
-    c.loop-from-test.true (record { first = t.first; more = t.more; are = sym c.settle-height.ensures.same ∙ t.are }) c.if-count-eq-MOST_NODES.false c.in-default.ensures
+    c.loop-from-test.true (record { first = t.first; more = t.more; are = sym c.settle-height.ensures.same ∙ t.are }) c.if-count-eq-MOST_NODES.false c.in_default.ensures
 
 pub returns-then-not-is_allowed : goal.returns-then-not-is_allowed
 returns-then-not-is_allowed g c =

@@ -10,9 +10,9 @@ returns-in-Card c = c.seek.ensures ∙ sym (root_sees c.args.program.now c.args.
 pub returns-in-Tree : goal.returns-in-Tree
 returns-in-Tree c = c.seek-in-Tree.ensures ∙ sym (root_sees c.args.program.now c.args.at Tree c.requires c.in-Tree.is)
 
-pub returns-in-default : goal.returns-in-default
-returns-in-default c =
+pub returns-in_default : goal.returns-in_default
+returns-in_default c =
     let es = c.args.program.now in
     let k = (entry_at es 0).node.kind in
-    c.seek-in-default.ensures
-    ∙ (sym (flat_sees (nodes es) c.args.at k c.in-default.not-Card c.in-default.not-Tree) ∙ sym (root_sees es c.args.at k c.requires refl))
+    c.seek-in_default.ensures
+    ∙ (sym (flat_sees (nodes es) c.args.at k c.in_default.not-Card c.in_default.not-Tree) ∙ sym (root_sees es c.args.at k c.requires refl))

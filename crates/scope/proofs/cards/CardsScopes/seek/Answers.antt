@@ -7,7 +7,7 @@ use Rattle.laws.proofs.RoundTrips.{length_nodes}
 use Rattle.scope.proofs.Scoping.{named_there}
 use Rattle.scope.proofs.CardWalk.{Passed, lines_begin, no_line_left, stops_in_own_line, goes_on_declared, goes_on_undeclared}
 use Rattle.scope.proofs.cards.CardsScopes.seek.Goals as goal
-use Rattle.scope.proofs.cards.CardsScopes.seek.Goals.{then-declares-as, else-declares-as}
+use Rattle.scope.proofs.cards.CardsScopes.seek.Goals.{then-declares_as, else-declares_as}
 
 pub loop-turn-init : goal.loop-turn-init
 loop-turn-init c =
@@ -23,22 +23,22 @@ returns-then-at-next c =
     let name = (entry_at es c.args.at).node.name in
     sym
     (named_there card_scopes es c.args.at
-    ∙ stops_in_own_line es c.args.at name c.requires c.arity-turn-end.result c.loop-turn.-turn c.loop-turn.line c.next_tree-next.result c.loop-turn.latest
+    ∙ stops_in_own_line es c.args.at name c.requires c.arity-turn-end.result c.loop-turn._turn c.loop-turn.line c.next_tree-next.result c.loop-turn.latest
     c.loop-turn-test.true c.next_tree-next.ensures c.loop-turn.invariant c.if-at-next.true)
 
 pub loop-turn-preserved : goal.loop-turn-preserved
 loop-turn-preserved c =
     let es = c.args.program.now in
     let name = (entry_at es c.args.at).node.name in
-    let P : Option ℕ → Type 0 = λ last. Passed (nodes es) c.args.at name c.next_tree-next.result (c.arity-turn-end.result - (c.loop-turn.-turn + 1)) last in
+    let P : Option ℕ → Type 0 = λ last. Passed (nodes es) c.args.at name c.next_tree-next.result (c.arity-turn-end.result - (c.loop-turn._turn + 1)) last in
     elim c.if-declares_as.branch [
-      | then-declares-as w ↦
+      | then-declares_as w ↦
           subst P (sym w.latest_is)
-          (goes_on_declared es c.args.at name c.requires c.arity-turn-end.result c.loop-turn.-turn c.loop-turn.line c.next_tree-next.result c.loop-turn.latest
+          (goes_on_declared es c.args.at name c.requires c.arity-turn-end.result c.loop-turn._turn c.loop-turn.line c.next_tree-next.result c.loop-turn.latest
           c.loop-turn-test.true c.next_tree-next.ensures c.loop-turn.invariant c.if-at-next.false c.declares_as.result c.declares_as.ensures w.if-declares_as.true)
-      | else-declares-as w ↦
+      | else-declares_as w ↦
           subst P (sym w.latest_is)
-          (goes_on_undeclared es c.args.at name c.requires c.arity-turn-end.result c.loop-turn.-turn c.loop-turn.line c.next_tree-next.result c.loop-turn.latest
+          (goes_on_undeclared es c.args.at name c.requires c.arity-turn-end.result c.loop-turn._turn c.loop-turn.line c.next_tree-next.result c.loop-turn.latest
           c.loop-turn-test.true c.next_tree-next.ensures c.loop-turn.invariant c.if-at-next.false c.declares_as.result c.declares_as.ensures w.if-declares_as.false)
     ]
 
@@ -48,4 +48,4 @@ returns c =
     let name = (entry_at es c.args.at).node.name in
     sym
     (named_there card_scopes es c.args.at
-    ∙ no_line_left (nodes es) c.args.at name (omega (arith, c.requires, length_nodes es)) c.loop-turn.line (c.arity-turn-end.result - c.loop-turn.-turn) c.loop-turn.latest (omega (arith, c.loop-turn-test.false)) c.loop-turn.invariant)
+    ∙ no_line_left (nodes es) c.args.at name (omega (arith, c.requires, length_nodes es)) c.loop-turn.line (c.arity-turn-end.result - c.loop-turn._turn) c.loop-turn.latest (omega (arith, c.loop-turn-test.false)) c.loop-turn.invariant)

@@ -4,4 +4,4 @@ use Rattle.scope.proofs.CardWalk.{Passed}
 use Rattle.scope.proofs.cards.CardsScopes.seek.Given as goal
 
 abbrev pub invariant-loop-turn : goal.invariant-loop-turn
-invariant-loop-turn l = Passed (nodes l.program) l.at l.name l.line (l.-turn-end - l.-turn) l.latest
+invariant-loop-turn l = Passed (nodes l.program) l.at l.name l.line (l._turn-end - l._turn) l.latest

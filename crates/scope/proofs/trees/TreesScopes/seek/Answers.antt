@@ -5,7 +5,7 @@ use Rattle.laws.proofs.RoundTrips.{length_nodes}
 use Rattle.scope.proofs.Scoping.{named_there}
 use Rattle.scope.proofs.TreeWalk.{Walked, walk_begins, walk_ends, goes_past, goes_up_from_first, goes_up_unlike, goes_up_to}
 use Rattle.scope.proofs.trees.TreesScopes.seek.Goals as goal
-use Rattle.scope.proofs.trees.TreesScopes.seek.Goals.{else-in-last-child-via-then-in-last-child+else-scopes-as, else-in-last-child-via-else-in-last-child}
+use Rattle.scope.proofs.trees.TreesScopes.seek.Goals.{else-in_last_child-via-then-in_last_child+else-scopes_as, else-in_last_child-via-else-in_last_child}
 
 pub loop-up-init : goal.loop-up-init
 loop-up-init c =
@@ -23,10 +23,10 @@ loop-up-preserved c =
     let es = c.args.program.now in
     let name = (entry_at es c.args.at).node.name in
     elim c.else-in_last_child.branch [
-      | else-in-last-child-via-then-in-last-child+else-scopes-as w ↦
+      | else-in_last_child-via-then-in_last_child+else-scopes_as w ↦
           goes_up_unlike es c.args.at c.loop-up.up c.loop-up.between c.arity-arity.result c.loop-up-test.true c.loop-up.auto.up c.requires
           name c.arity-arity.ensures c.loop-up.invariant c.if-arity-between.false w.if-in_last_child.true w.scopes_as.result w.scopes_as.ensures w.if-scopes_as.false
-      | else-in-last-child-via-else-in-last-child w ↦
+      | else-in_last_child-via-else-in_last_child w ↦
           goes_up_from_first es c.args.at c.loop-up.up c.loop-up.between c.arity-arity.result c.loop-up-test.true c.loop-up.auto.up c.requires
           name c.arity-arity.ensures c.loop-up.invariant c.if-arity-between.false w.if-in_last_child.false
     ]
