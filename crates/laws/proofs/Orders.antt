@@ -13,7 +13,7 @@ use Rattle.model.specs.Kinds.{row, is, same_sort, declares, role_declares, role_
 use Rattle.model.specs.Names.{root_of}
 use Rattle.model.specs.Fitting.{fits, Of}
 use Rattle.model.specs.Forest.{nil, tree, Shape, shape, size, children, pre}
-use Rattle.model.specs.Scopes.{order_of, owned, by_role, more, card_lines, card_scopes, scopes_its_last, tree_nodes, tree_scopes, declarations, flat_scopes, scopes_of, root_scopes, by_root}
+use Rattle.model.specs.Scopes.{Language, order_of, owned, by_role, more, card_lines, card_scopes, scopes_its_last, tree_nodes, tree_scopes, declarations, flat_scopes, scopes_of, root_scopes, by_root}
 use Rattle.model.specs.Rules.{Visible, Part}
 use Rattle.model.proofs.KindTables.{by_table, is_same}
 use Rattle.laws.specs.Orders.{OrdersVisible, LanguagesParts}
@@ -164,3 +164,7 @@ languages_parts_lem =
       tree = part_of Tree tree_scopes refl (λ s. refl);
       flat = part_of Flat flat_scopes refl (λ s. refl);
     }
+
+-- a language is a part of itself
+pub part_itself : (l : Language) → Part l l
+part_itself l = record { roots = λ r h. h; below = λ r k h. refl; visible = λ p o i. refl }

@@ -1,8 +1,7 @@
 // The language that goes by the root: cards, trees and flats in one.
 ghost use Rattle.std.specs.Prelude.{◌≡◌};
-ghost use Rattle.model.specs.Scopes.{root_scopes, root_order};
-ghost use Rattle.laws.proofs.Orders.{orders_visible_lem};
-ghost use Rattle.std.proofs.Common.{rules};
+ghost use Rattle.model.specs.Scopes.{root_scopes, root_order, by_root};
+ghost use Rattle.laws.proofs.Orders.{orders_visible_lem, part_itself};
 
 use crate::language::{Language, Part};
 use crate::scopes::{Scopes, find_by_role};
@@ -35,5 +34,5 @@ impl Language for ByRoot {
 }
 
 impl Part<ByRoot> for ByRoot {
-    ghost part = { Prim.search rules };
+    ghost part = { part_itself by_root };
 }

@@ -1,8 +1,7 @@
 // Cards: a name sees the declarations among the lines before its own, the latest before the others.
 ghost use Rattle.std.specs.Prelude.{◌≡◌};
 ghost use Rattle.model.specs.Scopes.{card_scopes, card_order};
-ghost use Rattle.laws.proofs.Orders.{orders_visible_lem};
-ghost use Rattle.std.proofs.Common.{rules};
+ghost use Rattle.laws.proofs.Orders.{orders_visible_lem, languages_parts_lem};
 
 use crate::language::{Language, Part};
 use crate::scopes::{Scopes, declares_as, find_by_role};
@@ -48,5 +47,5 @@ impl Language for Cards {
 }
 
 impl Part<ByRoot> for Cards {
-    ghost part = { Prim.search rules };
+    ghost part = { languages_parts_lem.card };
 }

@@ -1,8 +1,7 @@
 // Flats: a name sees every declaration of the program, the first before the others.
 ghost use Rattle.std.specs.Prelude.{◌≡◌};
 ghost use Rattle.model.specs.Scopes.{flat_scopes, flat_order};
-ghost use Rattle.laws.proofs.Orders.{orders_visible_lem};
-ghost use Rattle.std.proofs.Common.{rules};
+ghost use Rattle.laws.proofs.Orders.{orders_visible_lem, languages_parts_lem};
 
 use crate::language::{Language, Part};
 use crate::scopes::{Scopes, declares_as, find_by_role};
@@ -36,5 +35,5 @@ impl Language for Flats {
 }
 
 impl Part<ByRoot> for Flats {
-    ghost part = { Prim.search rules };
+    ghost part = { languages_parts_lem.flat };
 }

@@ -2,8 +2,7 @@
 ghost use Rattle.std.specs.Prelude.{◌≡◌, ◌&&◌};
 ghost use Rattle.model.specs.Names.{alike};
 ghost use Rattle.model.specs.Scopes.{scopes_its_last, tree_scopes, tree_order};
-ghost use Rattle.laws.proofs.Orders.{orders_visible_lem};
-ghost use Rattle.std.proofs.Common.{rules};
+ghost use Rattle.laws.proofs.Orders.{orders_visible_lem, languages_parts_lem};
 
 use crate::language::{Language, Part};
 use crate::scopes::{Scopes, find_by_role};
@@ -57,5 +56,5 @@ impl Language for Trees {
 }
 
 impl Part<ByRoot> for Trees {
-    ghost part = { Prim.search rules };
+    ghost part = { languages_parts_lem.tree };
 }

@@ -33,11 +33,11 @@ loop-turn-preserved c =
     let P : Option ℕ → Type 0 = λ last. Passed (nodes es) c.args.at name c.next_tree-next.result (c.arity-turn-end.result - (c.loop-turn._turn + 1)) last in
     elim c.if-declares_as.branch [
       | then-declares_as w ↦
-          subst P (sym w.latest_is)
+          subst P (sym w.latest-is)
           (goes_on_declared es c.args.at name c.requires c.arity-turn-end.result c.loop-turn._turn c.loop-turn.line c.next_tree-next.result c.loop-turn.latest
           c.loop-turn-test.true c.next_tree-next.ensures c.loop-turn.invariant c.if-at-next.false c.declares_as.result c.declares_as.ensures w.if-declares_as.true)
       | else-declares_as w ↦
-          subst P (sym w.latest_is)
+          subst P (sym w.latest-is)
           (goes_on_undeclared es c.args.at name c.requires c.arity-turn-end.result c.loop-turn._turn c.loop-turn.line c.next_tree-next.result c.loop-turn.latest
           c.loop-turn-test.true c.next_tree-next.ensures c.loop-turn.invariant c.if-at-next.false c.declares_as.result c.declares_as.ensures w.if-declares_as.false)
     ]
