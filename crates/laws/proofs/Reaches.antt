@@ -10,7 +10,7 @@ use Rattle.model.specs.Names.{alike, name_at, kind_at}
 use Rattle.model.specs.Forest.{shape}
 use Rattle.model.specs.Scopes.{Order, reach_in, reach_by, reach, reaches}
 use Rattle.model.specs.Classes.{source_of, reach_at}
-use Rattle.model.specs.Rules.{Visible, kind_in, kinds_of, numbers_of}
+use Rattle.model.specs.Rules.{Visible, kind_in, kinds_of}
 use Rattle.laws.proofs.NamesRead.{same_alike}
 use Rattle.laws.specs.Orders.{Reached, Reach, ByLikeness, ReachesLawful}
 use Rattle.laws.proofs.Forests.{pre_shape, same_shape}

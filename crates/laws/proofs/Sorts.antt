@@ -1,5 +1,5 @@
 -- Forests whose nodes stand where their sorts may stand, and what that is for lists.
-use Rattle.std.proofs.Common.{◌≡◌, ℕ, zero, suc, ◌+◌, Bool, true, false, not, ◌&&◌, List, [], ◌∷◌, ◌++◌, map, length, get_or, sym, refl, ap, ◌∙◌, subst, ap₂, subst₂, append_assoc, arith}
+use Rattle.std.proofs.Common.{◌≡◌, ℕ, zero, suc, Bool, true, false, not, ◌&&◌, List, [], ◌∷◌, ◌++◌, map, length, get_or, sym, refl, ap, ◌∙◌, subst, ap₂, subst₂, append_assoc, arith}
 use Rattle.std.specs.List.{AllByRecursion as All}
 use Rattle.std.proofs.lemmas.List.{append-nil, map-append}
 use Rattle.std.proofs.lemmas.Bool.{false≢true, eqb-true, and_parts, and_from, not-true, cond-false}
@@ -9,7 +9,7 @@ use Rattle.model.specs.declared.kinds.Sort.TheVariants.{Root, Line, Statement, S
 use Rattle.model.specs.declared.nodes.Node.{Node}
 use Rattle.model.specs.Kinds.{row, sort_number, same_sort, Children, exactly, as_many, sorts_below, child_sorts, Grammar, allowed, has_name}
 use Rattle.model.specs.Names.{name_at, kind_at, no_name, nodes}
-use Rattle.model.specs.Forest.{Forest, nil, tree, first, after, beside, over, plant, grow, pre, width, children, kinds_only, Shape, shape}
+use Rattle.model.specs.Forest.{Forest, nil, tree, first, after, beside, over, plant, grow, pre, width, kinds_only, Shape, shape}
 use Rattle.model.specs.Plans.{Naming, nameless, like, own, world, Planned, Plan, spelled, spell, spell_out}
 use Rattle.model.specs.Fitting.{fits, proper, number_fits, name_fits, Of}
 use Rattle.laws.proofs.Forests.{pre_grow, fmap, Every, every_pre, pre_every}

@@ -4,7 +4,7 @@ use Rattle.model.specs.declared.nodes.Node.{Node}
 use Rattle.model.specs.declared.nodes.Entry.{Entry}
 use Rattle.model.specs.Kinds.{Grammar}
 use Rattle.model.specs.Names.{nodes, entries}
-use Rattle.model.specs.Fields.{plain, draft}
+use Rattle.model.specs.Fields.{plain}
 use Rattle.model.specs.Reading.{read, read_plain, read_draft}
 use Rattle.model.specs.Writing.{write, write_draft}
 use Rattle.model.specs.Fitting.{proper, Program, proper_origins, DraftProgram}

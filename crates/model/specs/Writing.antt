@@ -7,7 +7,7 @@ use Rattle.model.specs.declared.faults.TextFault.{TextFault}
 use Rattle.model.specs.declared.faults.TextFault.TheVariants.{TooShort, Read}
 use Rattle.model.specs.Lists.{and_then}
 use Rattle.model.specs.Kinds.{row}
-use Rattle.model.specs.Names.{nodes, entries}
+use Rattle.model.specs.Names.{entries}
 use Rattle.model.specs.Fields.{Form, plain, draft, wanted, write_fields}
 
 -- the word, its fields each after a tab, and byte 10

@@ -13,7 +13,7 @@ use Rattle.model.specs.Kinds.{row, has_name, declares as kind_declares}
 use Rattle.model.specs.Names.{alike, name_at, kind_at, no_name, nodes, entry_at}
 use Rattle.model.specs.Fitting.{proper, number_fits, name_fits}
 use Rattle.model.specs.Forest.{shape}
-use Rattle.model.specs.Scopes.{Order, reach, reaches}
+use Rattle.model.specs.Scopes.{Order, reach}
 use Rattle.model.specs.Classes.{Source, Class, of_outer, by_origin, of_copied, reach_at, class_of, classes, together, is_outer, is_inner, Draft, class_at, source_of}
 use Rattle.model.specs.Checks.{unlike_free, copied_from_no_name, spelled_as, lowest_of, from_no_name, spelled_apart, outer_declared, lost, at_place, fault}
 use Rattle.model.specs.Repair.{Mended, mend, repair}

@@ -2,7 +2,7 @@
 use Rattle.std.proofs.Common.{◌≡◌, ℕ, zero, suc, ◌+◌, ◌-◌, ◌<◌, ◌≤◌, Bool, true, not, ◌&&◌, eqb, sym, refl, ap, ◌∙◌, subst, ⊎_elim, arith}
 use Rattle.std.specs.List.{AllByRecursion as All}
 use Rattle.std.proofs.lemmas.Bool.{cases_Bool, cases_eq, cases_lt, both_ways, and_from, and_parts, ne_eqb, eq-eqb, not-true, not_from_false, not_from_true, cond_both}
-use Rattle.promise.proofs.Frame.{plain, declares, refers, is_named, is_declares, Names, Frame, Lawful, named, peer, alike, reach, leads, declared, fresh, respell, turn, turns, OneSpelling}
+use Rattle.promise.proofs.Frame.{plain, declares, is_named, is_declares, Names, Frame, Lawful, named, peer, alike, reach, leads, declared, fresh, respell, turn, turns, OneSpelling}
 use Rattle.promise.proofs.FrameTests.{any_some, any_at, from_false, count_all, count_lt, pigeons, first_passes}
 use Rattle.promise.proofs.FrameTurns.{declares_from, peers, peer_at, in_range, reached, capture, fresh_mark, taken_by, respelled, turn_parts, one_turns}
 

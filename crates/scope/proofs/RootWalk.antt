@@ -7,7 +7,7 @@ use Rattle.model.specs.declared.nodes.Node.{Node}
 use Rattle.model.specs.declared.nodes.Entry.{Entry}
 use Rattle.model.specs.Kinds.{is}
 use Rattle.model.specs.Names.{name_at, kind_at, entry_at, nodes}
-use Rattle.model.specs.Forest.{Shape, shape}
+use Rattle.model.specs.Forest.{shape}
 use Rattle.model.specs.Scopes.{card_scopes, tree_scopes, flat_scopes, scopes_of, root_scopes, reach_in}
 use Rattle.model.proofs.KindTables.{is_same}
 use Rattle.laws.proofs.Entries.{node_of}

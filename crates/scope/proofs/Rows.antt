@@ -1,5 +1,5 @@
 -- In a program of a grammar every declaration has one of the grammar's kind rows.
-use Rattle.std.proofs.Common.{◌≡◌, ℕ, zero, suc, ◌+◌, ◌-◌, ◌<◌, Bool, true, false, cond, not, eqb, ltb, List, [], ◌∷◌, ◌++◌, map, length, get_or, Some, Option, sym, refl, ap, ◌∙◌, subst, arith}
+use Rattle.std.proofs.Common.{◌≡◌, ℕ, zero, suc, ◌-◌, ◌<◌, Bool, true, false, cond, not, eqb, ltb, List, [], ◌∷◌, ◌++◌, length, get_or, Option, sym, refl, ap, ◌∙◌, subst, arith}
 use Rattle.std.proofs.lemmas.List.{get_or-map, get_or_default, length-map}
 use Rattle.std.proofs.lemmas.Bool.{false≢true, and_parts, not-true, ltb-true, eqb-true, cond-true}
 use Rattle.model.specs.declared.kinds.Kind.{Kind}
@@ -10,9 +10,9 @@ use Rattle.model.specs.declared.kinds.Sort.{Sort}
 use Rattle.model.specs.declared.kinds.Sort.TheVariants.{Root}
 use Rattle.model.specs.declared.nodes.Node.{Node}
 use Rattle.model.specs.Lists.{keep}
-use Rattle.model.specs.Kinds.{Row, row, kinds, kind_number, sort_number, same_sort, role_declares, declares, child_sorts, Grammar, rows_below, allowed}
+use Rattle.model.specs.Kinds.{row, kinds, kind_number, sort_number, same_sort, role_declares, declares, child_sorts, Grammar, rows_below, allowed}
 use Rattle.model.specs.Names.{kind_at, root_of}
-use Rattle.model.specs.Fitting.{fits, Of}
+use Rattle.model.specs.Fitting.{fits}
 use Rattle.model.specs.Scopes.{Order, reach}
 use Rattle.model.specs.Rules.{Visible}
 use Rattle.model.proofs.KindTables.{by_table, every_kind, kind_back}

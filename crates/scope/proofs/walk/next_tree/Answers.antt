@@ -1,4 +1,4 @@
-use Rattle.std.proofs.Common.{◌≡◌, ◌+◌, ◌-◌, ◌^◌, ◌≤◌, min, length, sym, ap, ◌∙◌, arith}
+use Rattle.std.proofs.Common.{◌+◌, ◌-◌, ◌^◌, ◌≤◌, min, length, sym, ap, ◌∙◌, arith}
 use Rattle.model.specs.Forest.{arity}
 use Rattle.model.specs.Names.{nodes}
 use Rattle.laws.specs.Walks.{beyond}

@@ -1,4 +1,4 @@
-use Rattle.std.proofs.Common.{◌≡◌, ℕ, ◌<◌, min, length, None, sym, ap, ◌∙◌, arith}
+use Rattle.std.proofs.Common.{◌≡◌, length, None, sym, ◌∙◌, arith}
 use Rattle.model.specs.Names.{nodes}
 use Rattle.model.specs.Scopes.{reaches}
 use Rattle.laws.proofs.RoundTrips.{length_nodes}

@@ -1,4 +1,4 @@
-use Rattle.std.proofs.Common.{◌≡◌, ◌≤◌, ◌++◌, length, take, drop}
+use Rattle.std.proofs.Common.{◌≡◌, ◌++◌, take, drop}
 use Rattle.model.specs.Names.{nodes}
 use Rattle.model.specs.Scopes.{reaches}
 use Rattle.scope.proofs.language.Language.find_all.Given as goal
