@@ -1,3 +1,4 @@
+pub mod Shown
 pub mod Bits
 pub mod Firsts
 pub mod Rows
