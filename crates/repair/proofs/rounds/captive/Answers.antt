@@ -1,4 +1,4 @@
-use Rattle.std.proofs.Common.{sym, ap, ap₂, ◌∙◌, arith}
+use Rattle.std.proofs.Common.{sym, ap, ◌∙◌, arith}
 use Rattle.model.specs.Classes.{together}
 use Rattle.model.specs.CodeClasses.{shown_option, shown_classes}
 use Rattle.repair.specs.Rounds.{classes_of, captured}
