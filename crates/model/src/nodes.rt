@@ -1,7 +1,7 @@
 // Names, nodes, and where a name came from.
 ghost use Rattle.std.specs.Prelude.{◌≡◌, length, replicate};
 ghost use Rattle.model.specs.Names.{alike, same_stem, with_mark, unused_entry};
-ghost use Rattle.model.specs.Forest.{arity as children-wanted};
+ghost use Rattle.model.specs.Forest.{arity as children_wanted};
 
 use crate::kinds::{Children, Kind, row};
 
@@ -52,7 +52,7 @@ pub struct Node {
 impl Node {
     // How many children it takes.
     pub fn arity(&self) -> usize
-        ensures { result ≡ children-wanted self.now }
+        ensures { result ≡ children_wanted self.now }
     {
         match row(self.kind).children {
             Children::Exactly(sorts) => sorts.len(),

@@ -9,6 +9,7 @@ mod swell;
 
 use anyhow::anyhow;
 use std::env;
+use std::process::ExitCode;
 
 const USAGE: &str = "usage:
   namefix                        read the swell card and write it back
@@ -59,10 +60,12 @@ fn run(rt: &HostRuntime) -> anyhow::Result<()> {
     }
 }
 
-fn main(rt: HostRuntime) -> anyhow::Result<()> {
-    let result = run(&rt);
-    if let Err(error) = &result {
-        eprintln!(rt; "namefix: {error}\n{USAGE}")?;
+fn main(rt: HostRuntime) -> anyhow::Result<ExitCode> {
+    match run(&rt) {
+        Ok(()) => Ok(ExitCode::SUCCESS),
+        Err(error) => {
+            eprintln!(rt; "namefix: {error}\n{USAGE}")?;
+            Ok(ExitCode::FAILURE)
+        }
     }
-    result
 }
