@@ -27,6 +27,8 @@ OTHERWISE = {n: n.replace("-", "_") + "_lem" for n in LEMMAS} | {
     "any-getD": "any_get_or",
     "getD-places": "get_or_places",
 }
+# The records that answers are given.
+GIVEN = ("c", "goal", "g", "l", "G")
 # Names that two things may have: a module's, or a function's, which no clause can name, and its definition's.
 SHARED = {"Round-trips", "kind-of", "same-sort", "stands-under", "class-reached"}
 
@@ -75,39 +77,41 @@ def declared(path, text):
     found = {w for w in words(text) if DASHED.search(w) and not w.startswith("◌")} - imported(text)
     if of_function(path):
         heads = set(re.findall(rf"(?m)^\s*(?:abbrev |pub |unfoldable )*({WORD}) :", text))
-        goals = set(re.findall(rf"(?m)^\s*(?:abbrev |pub |unfoldable )*({WORD}) : goal\.", text))
-        return {w for w in found if w in heads and w not in goals}
+        return {w for w in found if w in heads and w not in goals_of(text)}
     return found
+
+
+def goals_of(text):
+    """The names of the goals that answers answer."""
+    return set(re.findall(rf"(?m)^\s*(?:abbrev |pub |unfoldable )*({WORD}) : goal\.", text))
+
+
+def is_made(part, chain, goals):
+    """Whether Rattle made the name: a goal's, or the first behind one of the records that answers are given."""
+    return part in goals or chain[-1:] == ["."] and (chain[0] == "goal" or len(chain) == 2 and chain[0] in GIVEN)
 
 
 def turn(path, text, table):
     """The text with the names of the table respelled."""
     keep = imported(text)
     answers = of_function(path)
-    goals = set(re.findall(rf"(?m)^\s*(?:abbrev |pub |unfoldable )*({WORD}) : goal\.", text)) if answers else set()
+    goals = goals_of(text) if answers else set()
     out = []
-    behind = []
+    # the dotted name that the text has just gone through, with its dots
+    chain = []
     for part in PARTS.findall(text):
-        if part.startswith(("--", "//", '"')) or part.isspace():
-            out.append(part)
-            if part != " ":
-                behind = []
-            else:
-                behind = []
-            continue
         if part == ".":
-            behind.append(".")
-            out.append(part)
-            continue
-        made = answers and (part in goals or (behind and behind[-1] == "." and (len(behind) == 2 and behind[0] in ("c", "goal", "g", "l", "G") or behind[:1] and behind[0] == "goal")))
-        new = part
-        if part in table and part not in keep and not made:
-            new = table[part]
-        out.append(new)
-        if re.fullmatch(WORD, part):
-            behind = (behind if behind and behind[-1] == "." else []) + [part]
+            chain.append(part)
+        elif not re.fullmatch(WORD, part) or part.startswith(("--", "//")):
+            chain = []
         else:
-            behind = []
+            if part in table and part not in keep and not (answers and is_made(part, chain, goals)):
+                out.append(table[part])
+            else:
+                out.append(part)
+            chain = (chain if chain[-1:] == ["."] else []) + [part]
+            continue
+        out.append(part)
     return "".join(out)
 
 

@@ -1,9 +1,10 @@
 #![tactic(auto)]
 // What follows from the definitions of texts, trees, scopes and stages: each function's contract is one theorem.
 ghost use Rattle.model.specs.Kinds.{Grammar as KindsAllowed};
+ghost use Rattle.model.specs.Scopes.{Order};
 ghost use Rattle.laws.specs.RoundTrips.{RoundTrips, DraftRoundTrips, WrittenIsShort, DraftWrittenIsShort};
 ghost use Rattle.laws.specs.Forests.{ForestLaws};
-ghost use Rattle.laws.specs.Orders.{OrdersVisible, LanguagesParts, ReachesLawful};
+ghost use Rattle.laws.specs.Orders.{OrdersVisible, LanguagesParts, ReachesLawful, ByLikeness};
 ghost use Rattle.laws.specs.Stages.{StageLaws, ForeignLawful, DraftsUnfaulted};
 ghost use Rattle.laws.specs.Walks.{WalkLaws, WalkSteps};
 
@@ -22,7 +23,8 @@ pub fn draft_round_trips()
 
 // No program is too long to be read: a line takes at most 25 bytes, in a draft 32.
 pub fn written_is_short()
-    ensures { (WrittenIsShort) × (DraftWrittenIsShort) }
+    ensures script { WrittenIsShort }
+    ensures draft { DraftWrittenIsShort }
 {}
 
 // Trees and scopes
@@ -42,9 +44,11 @@ pub fn languages_parts()
     ensures { LanguagesParts }
 {}
 
-// By any visible order a name reaches nothing, or the first declaration of its list that is spelled alike, which reaches itself.
+// By any visible order a name reaches nothing, or the first declaration of its list that is spelled alike, which
+// reaches itself; and by any order, which names are spelled alike is all that reaches depend on in their spelling.
 pub fn reaches_lawful()
-    ensures { ReachesLawful }
+    ensures reaches { ReachesLawful }
+    ensures likeness { (order : Order) → ByLikeness order }
 {}
 
 // Stages

@@ -1,5 +1,5 @@
 // The sorts of the nodes still to come, as a stack of runs whose last comes first.
-ghost use Rattle.std.specs.Prelude.{◌≡◌, ◌+◌, ◌-◌, ◌<◌, ◌≤◌, ◌∷◌, ◌++◌, length, get_or, replicate};
+ghost use Rattle.std.specs.Prelude.{◌≡◌, ◌+◌, ◌-◌, ◌<◌, ◌≤◌, ◌∷◌, ◌++◌, length, replicate, slice_index_or};
 ghost use Rattle.model.specs.Kinds.{child_sorts};
 ghost use Rattle.script.specs.Runs.{to_come};
 
@@ -17,7 +17,7 @@ pub fn settle(runs: &[Run], top: usize) -> usize
     requires { top ≤ length runs.now }
     ensures same { to_come runs.now result ≡ to_come runs.now top }
     ensures within { result ≤ top }
-    ensures some { 0 < result → 0 < (get_or runs.now (result - 1) (record { sort = Sort.Root; left = 0 })).left }
+    ensures some { 0 < result → 0 < (slice_index_or runs.now (result - 1) (record { sort = Sort.Root; left = 0 })).left }
 {
     let mut at = top;
     while at > 0 && runs[at - 1].left == 0 {
@@ -28,7 +28,9 @@ pub fn settle(runs: &[Run], top: usize) -> usize
 
 // Takes the first sort that is still to come.
 pub fn take_sort(runs: &mut [Run], top: usize) -> Sort
-    requires { (0 < top) × ((top ≤ length runs.old) × (0 < (get_or runs.old (top - 1) (record { sort = Sort.Root; left = 0 })).left)) }
+    requires some { 0 < top }
+    requires within { top ≤ length runs.old }
+    requires left { 0 < (slice_index_or runs.old (top - 1) (record { sort = Sort.Root; left = 0 })).left }
     ensures { to_come runs.old top ≡ result ∷ to_come runs.new top }
 {
     let run = runs[top - 1];

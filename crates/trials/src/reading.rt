@@ -14,8 +14,8 @@ enum Outcome {
 
 use Outcome::{Nodes, Refused};
 
-fn heard(res: Result<usize, TextFault>) -> Outcome {
-    match res {
+fn heard(answer: Result<usize, TextFault>) -> Outcome {
+    match answer {
         Ok(count) => Nodes(count),
         Err(fault) => Refused(fault.number(), fault.place()),
     }

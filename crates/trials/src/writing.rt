@@ -33,8 +33,8 @@ fn write_program(
     Ok(&buffer[0..length] == script)
 }
 
-fn heard(res: Result<bool, TextFault>) -> Outcome {
-    match res {
+fn heard(answer: Result<bool, TextFault>) -> Outcome {
+    match answer {
         Ok(true) => Outcome::Same,
         Ok(false) => Outcome::Differs,
         Err(fault) => Outcome::Refused(fault.number(), fault.place()),

@@ -5,4 +5,4 @@ use Rattle.script.proofs.pending.take_sort.Goals as goal
 
 pub returns : goal.returns
 returns c =
-    one_used c.args.runs.now c.args.top (record { sort = Sort.Root; left = 0 }) ((get_or c.args.runs.now (c.args.top - 1) (record { sort = Sort.Root; left = 0 })).left - 1) c.requires.0 c.requires.1.0 (omega (arith, c.requires.1.1))
+    one_used c.args.runs.now c.args.top (record { sort = Sort.Root; left = 0 }) ((get_or c.args.runs.now (c.args.top - 1) (record { sort = Sort.Root; left = 0 })).left - 1) c.requires.some c.requires.within (omega (arith, c.requires.left))
