@@ -16,7 +16,9 @@ use Rattle.model.specs.Kinds.{row, has_name, declares, role_declares, role_named
 use Rattle.model.specs.Names.{blank_entry, alike, name_at, kind_at, plainly, nodes, entry_at}
 use Rattle.model.specs.Forest.{Shape, shape, pre}
 use Rattle.model.specs.Scopes.{Order, order_of, by_role}
-use Rattle.model.specs.Classes.{Draft, Source, source_of, reach_at, Class, of_declaration, of_outer, of_group, of_copied, class_of, classes, same_class, together, is_outer, is_inner}
+use Rattle.model.specs.declared.classes.Class.{Class}
+use Rattle.model.specs.declared.classes.Class.TheVariants.{OfDeclaration, OfOuter, OfGroup}
+use Rattle.model.specs.Classes.{Draft, Source, source_of, reach_at, of_copied, class_of, classes, same_class, together, is_outer, is_inner}
 use Rattle.model.specs.Checks.{copied_from_no_name, from_no_name, lowest_of, spelled_as, unlike_free, spelled_apart, outer_declared, lost, fault}
 use Rattle.model.specs.Plans.{Naming, nameless, like, own, world, Planned, plain, spelled, comes, spell, own_name}
 use Rattle.model.specs.Rules.{Visible}
@@ -97,9 +99,9 @@ module _ (s : Source) (xs : List Planned) where
 
 inner_same : (c : Option Class) → is_inner c ≡ true → together c c ≡ true
 inner_same None h = absurd (false≢true h)
-inner_same (Some (of_declaration d)) h = eq-eqb d d refl
-inner_same (Some (of_outer a)) h = absurd (false≢true h)
-inner_same (Some (of_group g)) h = eq-eqb g g refl
+inner_same (Some (OfDeclaration d)) h = eq-eqb d d refl
+inner_same (Some (OfOuter a)) h = absurd (false≢true h)
+inner_same (Some (OfGroup g)) h = eq-eqb g g refl
 
 pub same_together : (c e : Option Class) → is_inner c ≡ true → e ≡ c → together c e ≡ true
 same_together c e h q = subst (λ x. together c x ≡ true) (sym q) (inner_same c h)
@@ -128,19 +130,19 @@ module _ (order : Order) (vis : Visible order) (p : List Node) where
 
   -- Declarations
 
-  pub like_class : (m : Planned) (d : ℕ) → declares m.kind ≡ true → m.naming ≡ like d → declares (kind_at p d) ≡ true → class_in src m ≡ Some (of_declaration d)
+  pub like_class : (m : Planned) (d : ℕ) → declares m.kind ≡ true → m.naming ≡ like d → declares (kind_at p d) ≡ true → class_in src m ≡ Some (OfDeclaration d)
   like_class m d h e k =
       ap₂ (class_by src p) (by_table declares has_name refl m.kind h) e ∙ ap (λ o. Some (of_copied src d o)) (reached_itself d k)
 
-  pub own_class : (m : Planned) (s : String) (g : ℕ) → declares m.kind ≡ true → m.naming ≡ own s g → class_in src m ≡ Some (of_group g)
+  pub own_class : (m : Planned) (s : String) (g : ℕ) → declares m.kind ≡ true → m.naming ≡ own s g → class_in src m ≡ Some (OfGroup g)
   own_class m s g h e = ap₂ (class_by src p) (by_table declares has_name refl m.kind h) e
 
   -- References: what a name of inner class must find is the declaration of its group, or of what its source reaches
 
   abbrev pub Wants : (Class → Type 0) → Naming → Type 0
   Wants Q nameless = Unit {0}
-  Wants Q (like j) = (d : ℕ) → reach_at src j ≡ Some d → Q (of_declaration d)
-  Wants Q (own s g) = Q (of_group g)
+  Wants Q (like j) = (d : ℕ) → reach_at src j ≡ Some d → Q (OfDeclaration d)
+  Wants Q (own s g) = Q (OfGroup g)
   Wants Q (world s) = Unit {0}
 
   pub copy_wants : (Q : Class → Type 0) (b : Bool) (j : ℕ) → Wants Q (like j) → Wants Q (own_name b j)
@@ -184,20 +186,20 @@ module _ (order : Order) (vis : Visible order) (p : List Node) where
 
   module _ (st : ℕ → String) where
     abbrev class_name : Class → Name
-    class_name (of_declaration d) = name_at p d
-    class_name (of_outer a) = a
-    class_name (of_group g) = plainly (st g)
+    class_name (OfDeclaration d) = name_at p d
+    class_name (OfOuter a) = a
+    class_name (OfGroup g) = plainly (st g)
 
     same_names : (c e : Class) → same_class c e ≡ true → class_name c ≡ class_name e
-    same_names (of_declaration d) (of_declaration e) h = ap (name_at p) (eqb-true d e h)
-    same_names (of_declaration d) (of_outer b) h = absurd (false≢true h)
-    same_names (of_declaration d) (of_group g) h = absurd (false≢true h)
-    same_names (of_outer a) (of_declaration e) h = absurd (false≢true h)
-    same_names (of_outer a) (of_outer b) h = alike_same a b h
-    same_names (of_outer a) (of_group g) h = absurd (false≢true h)
-    same_names (of_group g) (of_declaration e) h = absurd (false≢true h)
-    same_names (of_group g) (of_outer b) h = absurd (false≢true h)
-    same_names (of_group g) (of_group e) h = ap (λ n. plainly (st n)) (eqb-true g e h)
+    same_names (OfDeclaration d) (OfDeclaration e) h = ap (name_at p) (eqb-true d e h)
+    same_names (OfDeclaration d) (OfOuter b) h = absurd (false≢true h)
+    same_names (OfDeclaration d) (OfGroup g) h = absurd (false≢true h)
+    same_names (OfOuter a) (OfDeclaration e) h = absurd (false≢true h)
+    same_names (OfOuter a) (OfOuter b) h = alike_same a b h
+    same_names (OfOuter a) (OfGroup g) h = absurd (false≢true h)
+    same_names (OfGroup g) (OfDeclaration e) h = absurd (false≢true h)
+    same_names (OfGroup g) (OfOuter b) h = absurd (false≢true h)
+    same_names (OfGroup g) (OfGroup e) h = ap (λ n. plainly (st n)) (eqb-true g e h)
 
     abbrev SpelledAs : Option Class → Name → Type 0
     SpelledAs None a = Unit {0}

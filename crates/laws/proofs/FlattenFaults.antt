@@ -15,7 +15,9 @@ use Rattle.model.specs.Names.{kind_at, blank, plainly}
 use Rattle.model.specs.Fitting.{Of}
 use Rattle.model.specs.Forest.{Forest, nil, tree, beside, grow, pre, size, width, children}
 use Rattle.model.specs.Scopes.{more, declarations, flat_scopes, tree_order}
-use Rattle.model.specs.Classes.{Source, source_of, Class, of_declaration, of_group, together, is_inner}
+use Rattle.model.specs.declared.classes.Class.{Class}
+use Rattle.model.specs.declared.classes.Class.TheVariants.{OfDeclaration, OfGroup}
+use Rattle.model.specs.Classes.{Source, source_of, together, is_inner}
 use Rattle.model.specs.Plans.{Naming, nameless, like, own, world, Planned, Plan, own_name}
 use Rattle.model.specs.Flatten.{Flattened, nothing, all_steps, stored, result, no_label, fin_label, branches, Turn, slot_let, emit_put, slot_bind, branch_if, end_here, as_it_is, turn, flattened_node, flattened, flatten_plan, flatten_draft, flatten}
 use Rattle.model.specs.Rules.{Visible}
@@ -332,10 +334,10 @@ module _ (p : List Node) (o : Of tree_grammar p) where
   wants i l (like j) h = λ d e.
       let r = (reached tree_order vis p j d e).declaration in
       let q = bears_at (like d) (flatten_plan p) (declared_whole p o d r) in
-      declared_seen i l (Some (of_declaration d)) refl q.0 q.1 (like_class tree_order vis p (get_or xs q.0 no_node) d q.1 q.2 r)
+      declared_seen i l (Some (OfDeclaration d)) refl q.0 q.1 (like_class tree_order vis p (get_or xs q.0 no_node) d q.1 q.2 r)
   wants i l (own s g) h =
       let q = bears_at (own s g) (flatten_plan p) h in
-      declared_seen i l (Some (of_group g)) refl q.0 q.1 (own_class tree_order vis p (get_or xs q.0 no_node) s g q.1 q.2)
+      declared_seen i l (Some (OfGroup g)) refl q.0 q.1 (own_class tree_order vis p (get_or xs q.0 no_node) s g q.1 q.2)
   wants i l (world s) h = tt
 
   found : Found src xs flat_scopes

@@ -19,7 +19,9 @@ use Rattle.model.specs.Names.{kind_at, node_at, blank, plainly}
 use Rattle.model.specs.Fitting.{Of}
 use Rattle.model.specs.Forest.{Forest, nil, tree, first, after, beside, grow, pre, size, width, children, kinds_only, shape}
 use Rattle.model.specs.Scopes.{more, by_role, scopes_its_last, tree_nodes, tree_scopes, card_lines, card_scopes, card_order}
-use Rattle.model.specs.Classes.{Source, source_of, reach_at, Class, of_declaration, of_group, class_of, together, is_inner}
+use Rattle.model.specs.declared.classes.Class.{Class}
+use Rattle.model.specs.declared.classes.Class.TheVariants.{OfDeclaration, OfGroup}
+use Rattle.model.specs.Classes.{Source, source_of, reach_at, class_of, together, is_inner}
 use Rattle.model.specs.Plans.{like, Planned, Plan, named, copy, spell}
 use Rattle.model.specs.Lower.{Turn, bound_first, above_datum, as_it_is, turn, lowered_node, lowered, reads, head_reads, joined, LineTurn, let_field, let_def, put_out, line_turn, fields_after, lowered_line, lowered_lines, lower_plan, lower_draft, lower}
 use Rattle.model.specs.Rules.{Visible}
@@ -184,19 +186,19 @@ module _ (p : List Node) where
 
   -- what the references among n nodes from number i on reach is provided
   abbrev Known : Env → ℕ → ℕ → Type 0
-  Known env i n = (k : ℕ) → i ≤ k → k < i + n → declares (kind_at p k) ≡ false → (d : ℕ) → reach_at src k ≡ Some d → Provided env (of_declaration d)
+  Known env i n = (k : ℕ) → i ≤ k → k < i + n → declares (kind_at p k) ≡ false → (d : ℕ) → reach_at src k ≡ Some d → Provided env (OfDeclaration d)
 
   more_provided : (x : Option Class) (env : Env) (c : Class) → Provided env c → Provided (x ∷ env) c
   more_provided x env c h = or_right (together (Some c) x) (any (together (Some c)) env) h
 
-  group_provided : (g : ℕ) (env : Env) → Provided (Some (of_group g) ∷ env) (of_group g)
-  group_provided g env = or_left (eqb g g) (any (together (Some (of_group g))) env) (eq-eqb g g refl)
+  group_provided : (g : ℕ) (env : Env) → Provided (Some (OfGroup g) ∷ env) (OfGroup g)
+  group_provided g env = or_left (eqb g g) (any (together (Some (OfGroup g))) env) (eq-eqb g g refl)
 
   known_part : (env : Env) (i n j m : ℕ) → Known env i n → i ≤ j → j + m ≤ i + n → Known env j m
   known_part env i n j m h a b = λ k u v. h k (omega arith) (omega arith)
 
   abbrev t_env : ℕ → Env → Env
-  t_env i env = Some (of_group (2048 + i)) ∷ env
+  t_env i env = Some (OfGroup (2048 + i)) ∷ env
 
   node_bound : (t : Turn) (i : ℕ) (n : Node) (env : Env) (cs rest : Plan) → TurnFact t n.kind → width cs ≡ length (child_sorts n.kind n.number) → allowed card_grammar Card Expression n.kind ≡ true → Finds env (copy i n) → Bound env env cs → Bound (t_env i env) (t_env i env) cs → Bound env env rest → Bound env env (lowered_node t i n cs rest)
   node_bound bound_first i n env cs rest t w a f b b1 c =
@@ -227,20 +229,20 @@ module _ (p : List Node) where
       a
       (finds env (copy i n) (λ d. copy_wants card_order vis p (Provided env) (has_name n.kind) i (λ r q. k i (omega arith) (omega arith) (ap declares e ∙ d) r q)))
       (lowered_bound (i + 1) below cs env only h.1 l.1 kc)
-      (lowered_bound (i + 1) below cs (t_env i env) only h.1 l.1 (λ x u v w d q. more_provided (Some (of_group (2048 + i))) env (of_declaration d) (kc x u v w d q)))
+      (lowered_bound (i + 1) below cs (t_env i env) only h.1 l.1 (λ x u v w d q. more_provided (Some (OfGroup (2048 + i))) env (OfDeclaration d) (kc x u v w d q)))
       (lowered_bound (i + 1 + size cs) ss rest env o.1 h.2 l.2 kr)
 
   -- Lines
 
   -- the groups of the fields before F are provided
   abbrev Groups : Env → ℕ → Type 0
-  Groups env F = (x : ℕ) → x < F → Provided env (of_group (2 * x)) × Provided env (of_group (2 * x + 1))
+  Groups env F = (x : ℕ) → x < F → Provided env (OfGroup (2 * x)) × Provided env (OfGroup (2 * x + 1))
 
   more_groups : (c : Option Class) (env : Env) (F : ℕ) → Groups env F → Groups (c ∷ env) F
-  more_groups c env F g = λ x l. (more_provided c env (of_group (2 * x)) (g x l).0, more_provided c env (of_group (2 * x + 1)) (g x l).1)
+  more_groups c env F g = λ x l. (more_provided c env (OfGroup (2 * x)) (g x l).0, more_provided c env (OfGroup (2 * x + 1)) (g x l).1)
 
   abbrev AllProvided : Env → List ℕ → Type 0
-  AllProvided env Γ = All (λ d. Provided env (of_declaration d)) Γ
+  AllProvided env Γ = All (λ d. Provided env (OfDeclaration d)) Γ
 
   -- what follows is bound wherever the groups and the declarations before it are provided
   abbrev Next : ℕ → List ℕ → Plan → Type 0
@@ -249,10 +251,10 @@ module _ (p : List Node) where
   let_bound : (i F : ℕ) (k : Kind) (Γ : List ℕ) (env : Env) (next : Plan) → kind_at p i ≡ k → declares k ≡ true → Groups env F → AllProvided env Γ → Next F (more (declares k) i Γ) next → Bound (cl (named Let (like i)) ∷ env) (cl (named Let (like i)) ∷ env) next
   let_bound i F k Γ env next e d g a nx =
       let m = named Let (like i) in
-      let here = same_together (Some (of_declaration i)) (cl m) refl (like_class card_order vis p m i refl refl (ap declares e ∙ d)) in
-      let before = All-weaker (λ x. Provided env (of_declaration x)) (λ x. Provided (cl m ∷ env) (of_declaration x)) (λ x h. more_provided (cl m) env (of_declaration x) h) Γ a in
+      let here = same_together (Some (OfDeclaration i)) (cl m) refl (like_class card_order vis p m i refl refl (ap declares e ∙ d)) in
+      let before = All-weaker (λ x. Provided env (OfDeclaration x)) (λ x. Provided (cl m ∷ env) (OfDeclaration x)) (λ x h. more_provided (cl m) env (OfDeclaration x) h) Γ a in
       nx (cl m ∷ env) (more_groups (cl m) env F g)
-      (subst (λ b. AllProvided (cl m ∷ env) (more b i Γ)) (sym d) (or_left (together (Some (of_declaration i)) (cl m)) (any (together (Some (of_declaration i))) env) here, before))
+      (subst (λ b. AllProvided (cl m ∷ env) (more b i Γ)) (sym d) (or_left (together (Some (OfDeclaration i)) (cl m)) (any (together (Some (OfDeclaration i))) env) here, before))
 
   line_bound : (t : LineTurn) (i f F : ℕ) (n : Node) (Γ : List ℕ) (env : Env) (body next : Plan) → LineFact t n.kind → kind_at p i ≡ n.kind → allowed card_grammar Card Line n.kind ≡ true → width body ≡ length (child_sorts n.kind n.number) → fields_after t f ≤ F → Groups env F → AllProvided env Γ → Bound env env body → Next F (more (declares n.kind) i Γ) next → Bound env env (lowered_line t i f body next)
   line_bound let_field i f F n Γ env body next l e a w lf g q b nx =
@@ -312,7 +314,7 @@ module _ (p : List Node) where
   line_known : (i n : ℕ) (Γ : List ℕ) (env : Env) → ((k : ℕ) → i ≤ k → k < i + 1 + n → get_or D k [] ≡ Γ) → AllProvided env Γ → Known env (i + 1) n
   line_known i n Γ env s a = λ k u v w d e.
       let r = reached card_order vis p k d e in
-      role_known (λ x. Provided env (of_declaration x)) (row (get_or (pre (shape p)) k Card)).role k (get_or D k []) d r.place (ap declares (shape_kind p k) ∙ w) r.within r.seen
+      role_known (λ x. Provided env (OfDeclaration x)) (row (get_or (pre (shape p)) k Card)).role k (get_or D k []) d r.place (ap declares (shape_kind p k) ∙ w) r.within r.seen
       (subst (AllProvided env) (sym (s k (omega arith) v)) a)
 
   lines_bound : (i f F : ℕ) (Γ : List ℕ) (ss : List Sort) (ls : Forest Node) → Only Line ss → CardFills ss ls → Placed blank p i ls → Scoped D i Γ ls → f + fields ls ≤ F → Next F Γ (lowered_lines i f ls)
@@ -340,15 +342,15 @@ module _ (p : List Node) where
     where
       go : (b : Bool) (x y : Plan) → f + cond b (1 + fields rest) (fields rest) ≡ F → (f + 1 + fields rest ≡ F → (env : Env) → Groups env (f + 1) → Bound env env x) → (f + fields rest ≡ F → (env : Env) → Groups env f → Bound env env y) → Bound env env (elim b [ true ↦ reads f n.number x | false ↦ y ])
       go true x y q hx hy =
-          let e1 : Env = Some (of_group (2 * f)) ∷ env in
-          let e2 : Env = Some (of_group (2 * f + 1)) ∷ e1 in
+          let e1 : Env = Some (OfGroup (2 * f)) ∷ env in
+          let e2 : Env = Some (OfGroup (2 * f + 1)) ∷ e1 in
           let g2 : Groups e2 (f + 1) = λ k l.
           elim (cases_lt k f) [
-            | inl s ↦ more_groups (Some (of_group (2 * f + 1))) e1 f (more_groups (Some (of_group (2 * f))) env f g) k s
+            | inl s ↦ more_groups (Some (OfGroup (2 * f + 1))) e1 f (more_groups (Some (OfGroup (2 * f))) env f g) k s
             | inr s ↦
                 (let z : f ≡ k = omega arith in
-                subst (λ j. Provided e2 (of_group (2 * j)) × Provided e2 (of_group (2 * j + 1))) z
-                (more_provided (Some (of_group (2 * f + 1))) e1 (of_group (2 * f)) (group_provided (2 * f) env), group_provided (2 * f + 1) e1))
+                subst (λ j. Provided e2 (OfGroup (2 * j)) × Provided e2 (OfGroup (2 * j + 1))) z
+                (more_provided (Some (OfGroup (2 * f + 1))) e1 (OfGroup (2 * f)) (group_provided (2 * f) env), group_provided (2 * f + 1) e1))
           ] in
           ((λ d. absurd (true≢false d)), ((λ d h. absurd (false≢true h)), tt, ((λ d. absurd (true≢false d)), ((λ d h. absurd (false≢true h)), tt, hx (omega arith) e2 g2), tt)), tt)
       go false x y q hx hy = hy q env g

@@ -12,7 +12,9 @@ use Rattle.model.specs.Names.{alike, name_at, kind_at, plainly, nodes}
 use Rattle.model.specs.Fitting.{name_fits}
 use Rattle.model.specs.Forest.{Forest, pre, grow}
 use Rattle.model.specs.Scopes.{Order}
-use Rattle.model.specs.Classes.{Source, source_of, reach_at, Class, of_declaration, of_outer, of_group, of_copied, by_origin, class_at, together, is_outer}
+use Rattle.model.specs.declared.classes.Class.{Class}
+use Rattle.model.specs.declared.classes.Class.TheVariants.{OfDeclaration, OfOuter, OfGroup}
+use Rattle.model.specs.Classes.{Source, source_of, reach_at, of_copied, by_origin, class_at, together, is_outer}
 use Rattle.model.specs.Stages.{Transformation}
 use Rattle.model.specs.Plans.{Naming, nameless, like, own, world, Planned, Plan, spelled, comes, spell, spell_out, own_name, copy}
 use Rattle.model.specs.Rules.{Visible, kinds_of, numbers_of, origins_of, Alike, Agree, Agreeing, drafted}
@@ -66,21 +68,21 @@ class_by s p b a = cond b (Some (by_origin s (spelled p a) (cond b (comes a) Out
 
 abbrev is_bound : Option Class → Bool
 is_bound None = false
-is_bound (Some (of_declaration d)) = true
-is_bound (Some (of_outer a)) = false
-is_bound (Some (of_group g)) = false
+is_bound (Some (OfDeclaration d)) = true
+is_bound (Some (OfOuter a)) = false
+is_bound (Some (OfGroup g)) = false
 
-bound_together : (c : Option Class) (e : ℕ) → is_bound c ≡ false → together c (Some (of_declaration e)) ≡ true → ⊥
+bound_together : (c : Option Class) (e : ℕ) → is_bound c ≡ false → together c (Some (OfDeclaration e)) ≡ true → ⊥
 bound_together None e h t = false≢true t
-bound_together (Some (of_declaration d)) e h t = true≢false h
-bound_together (Some (of_outer a)) e h t = false≢true t
-bound_together (Some (of_group g)) e h t = false≢true t
+bound_together (Some (OfDeclaration d)) e h t = true≢false h
+bound_together (Some (OfOuter a)) e h t = false≢true t
+bound_together (Some (OfGroup g)) e h t = false≢true t
 
-together_bound : (c : Option Class) (e : ℕ) → is_bound c ≡ false → together (Some (of_declaration e)) c ≡ true → ⊥
+together_bound : (c : Option Class) (e : ℕ) → is_bound c ≡ false → together (Some (OfDeclaration e)) c ≡ true → ⊥
 together_bound None e h t = false≢true t
-together_bound (Some (of_declaration d)) e h t = true≢false h
-together_bound (Some (of_outer a)) e h t = false≢true t
-together_bound (Some (of_group g)) e h t = false≢true t
+together_bound (Some (OfDeclaration d)) e h t = true≢false h
+together_bound (Some (OfOuter a)) e h t = false≢true t
+together_bound (Some (OfGroup g)) e h t = false≢true t
 
 abbrev is_class : Option Class → Bool
 is_class None = false
@@ -102,7 +104,7 @@ outer_class (Some c) h = refl
 module _ (order : Order) (vis : Visible order) (p q : List Node) (al : Alike order p q) where
   -- no class, or spelled the same in both, or bound to a declaration and spelled like it
   abbrev Status : Option Class → Name → Name → Type 0
-  Status c a b = ((is_bound c ≡ false) × (is_class c ≡ true → a ≡ b)) ⊎ ((d : ℕ) × (c ≡ Some (of_declaration d)) × (a ≡ name_at p d) × (b ≡ name_at q d))
+  Status c a b = ((is_bound c ≡ false) × (is_class c ≡ true → a ≡ b)) ⊎ ((d : ℕ) × (c ≡ Some (OfDeclaration d)) × (a ≡ name_at p d) × (b ≡ name_at q d))
 
   same_name : (r : List Node) (j d : ℕ) → reach_at (source_of order r) j ≡ Some d → name_at r j ≡ name_at r d
   same_name r j d e = alike_same (name_at r j) (name_at r d) (reached order vis r j d e).spelled

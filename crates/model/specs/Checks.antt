@@ -8,7 +8,8 @@ use Rattle.model.specs.declared.faults.RepairFault.TheVariants.{FromNoName, Spel
 use Rattle.model.specs.Lists.{any, first_with, places, or_else, or_next, is_none}
 use Rattle.model.specs.Kinds.{has_name, declares}
 use Rattle.model.specs.Names.{alike, name_at, kind_at, entry_at}
-use Rattle.model.specs.Classes.{Draft, Source, reach_at, Class, together, is_outer, is_inner}
+use Rattle.model.specs.declared.classes.Class.{Class}
+use Rattle.model.specs.Classes.{Draft, Source, reach_at, together, is_outer, is_inner}
 
 -- 9: copied from no name node
 abbrev pub copied_from_no_name : Source → Origin → Bool

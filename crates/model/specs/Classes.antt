@@ -1,5 +1,7 @@
 -- What a draft is made from, and the class of each of its names.
 use Rattle.std.specs.Prelude.{ℕ, Bool, true, false, cond, List, map, Some, None, Option, ◌==◌, slice_index_or}
+use Rattle.model.specs.declared.classes.Class.{Class}
+use Rattle.model.specs.declared.classes.Class.TheVariants.{OfDeclaration, OfOuter, OfGroup}
 use Rattle.model.specs.declared.nodes.Name.{Name}
 use Rattle.model.specs.declared.nodes.Node.{Node}
 use Rattle.model.specs.declared.nodes.Origin.{Origin}
@@ -24,20 +26,15 @@ source_of order p = record { program = p; reached = reaches order p }
 abbrev pub reach_at : Source → ℕ → Option ℕ
 reach_at s k = slice_index_or s.reached k None
 
-pub data Class : Type 0 where
-  of_declaration : ℕ → Class
-  of_outer : Name → Class
-  of_group : ℕ → Class
-
 -- copied from k: the class of the declaration that k reaches, or the outer class of k's spelling
 abbrev pub of_copied : Source → ℕ → Option ℕ → Class
-of_copied s k (Some d) = of_declaration d
-of_copied s k None = of_outer (name_at s.program k)
+of_copied s k (Some d) = OfDeclaration d
+of_copied s k None = OfOuter (name_at s.program k)
 
 abbrev pub by_origin : Source → Name → Origin → Class
 by_origin s a (Copied k) = of_copied s k (reach_at s k)
-by_origin s a (Private g) = of_group g
-by_origin s a Outer = of_outer a
+by_origin s a (Private g) = OfGroup g
+by_origin s a Outer = OfOuter a
 
 -- a node without a name has no class
 abbrev pub class_of : Source → Entry → Option Class
@@ -50,15 +47,15 @@ abbrev pub class_at : Source → Draft → ℕ → Option Class
 class_at s d i = slice_index_or (classes s d) i None
 
 abbrev pub same_class : Class → Class → Bool
-same_class (of_declaration d) (of_declaration e) = d == e
-same_class (of_declaration d) (of_outer b) = false
-same_class (of_declaration d) (of_group h) = false
-same_class (of_outer a) (of_declaration e) = false
-same_class (of_outer a) (of_outer b) = alike a b
-same_class (of_outer a) (of_group h) = false
-same_class (of_group g) (of_declaration e) = false
-same_class (of_group g) (of_outer b) = false
-same_class (of_group g) (of_group h) = g == h
+same_class (OfDeclaration d) (OfDeclaration e) = d == e
+same_class (OfDeclaration d) (OfOuter b) = false
+same_class (OfDeclaration d) (OfGroup h) = false
+same_class (OfOuter a) (OfDeclaration e) = false
+same_class (OfOuter a) (OfOuter b) = alike a b
+same_class (OfOuter a) (OfGroup h) = false
+same_class (OfGroup g) (OfDeclaration e) = false
+same_class (OfGroup g) (OfOuter b) = false
+same_class (OfGroup g) (OfGroup h) = g == h
 
 -- it is a name of that class
 abbrev pub in_class : Class → Option Class → Bool
@@ -73,12 +70,12 @@ together (Some c) e = in_class c e
 -- a name of outer class, and one of another
 abbrev pub is_outer : Option Class → Bool
 is_outer None = false
-is_outer (Some (of_declaration d)) = false
-is_outer (Some (of_outer a)) = true
-is_outer (Some (of_group g)) = false
+is_outer (Some (OfDeclaration d)) = false
+is_outer (Some (OfOuter a)) = true
+is_outer (Some (OfGroup g)) = false
 
 abbrev pub is_inner : Option Class → Bool
 is_inner None = false
-is_inner (Some (of_declaration d)) = true
-is_inner (Some (of_outer a)) = false
-is_inner (Some (of_group g)) = true
+is_inner (Some (OfDeclaration d)) = true
+is_inner (Some (OfOuter a)) = false
+is_inner (Some (OfGroup g)) = true

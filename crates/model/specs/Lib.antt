@@ -10,7 +10,6 @@ pub mod Fitting
 pub mod Forest
 pub mod Scopes
 pub mod Classes
-pub mod CodeClasses
 pub mod Checks
 pub mod Repair
 pub mod MarkRow

@@ -8,7 +8,8 @@ use Rattle.model.specs.Kinds.{has_name}
 use Rattle.model.specs.Names.{same_stem, with_mark, name_at, respelled, nodes}
 use Rattle.model.specs.Forest.{shape}
 use Rattle.model.specs.Scopes.{Order, reach_by}
-use Rattle.model.specs.Classes.{Draft, Source, Class, together, classes}
+use Rattle.model.specs.declared.classes.Class.{Class}
+use Rattle.model.specs.Classes.{Draft, Source, together, classes}
 use Rattle.model.specs.Checks.{fault}
 
 -- no lower name is of its class

@@ -4,7 +4,7 @@ use crate::kinds::Kind;
 use crate::nodes::Origin;
 
 // What is told of a node: the number is 0 where the kind has none.
-#[derive(Clone, Copy)]
+#[derive(Clone, Copy, PartialEq, Eq, Debug)]
 pub struct Told {
     pub kind: Kind,
     pub number: u32,
@@ -13,13 +13,13 @@ pub struct Told {
 }
 
 // What is told of a draft that was mended: its nodes, and the rounds that it took.
-#[derive(Clone, Copy)]
+#[derive(Clone, Copy, PartialEq, Eq, Debug)]
 pub struct Counts {
     pub nodes: usize,
     pub rounds: usize,
 }
 
-#[derive(Clone, Copy)]
+#[derive(Clone, Copy, PartialEq, Eq, Debug)]
 pub enum Answer {
     Loaded { nodes: usize },
     Ran { nodes: usize, rounds: usize },

@@ -5,7 +5,7 @@ ghost use Rattle.model.specs.declared.faults.MendFault.TheVariants.{Repair};
 ghost use Rattle.model.specs.declared.faults.TextFault.TheVariants.{Read};
 
 // A text that is refused; the number is its line.
-#[derive(Clone, Copy)]
+#[derive(Clone, Copy, PartialEq, Eq, Debug)]
 pub enum ReadFault {
     TooLong,
     WrongLine(usize),
@@ -16,21 +16,21 @@ pub enum ReadFault {
 }
 
 // Reading into a row, or writing into a buffer, that is refused. A buffer's number is the length needed.
-#[derive(Clone, Copy)]
+#[derive(Clone, Copy, PartialEq, Eq, Debug)]
 pub enum TextFault {
     TooShort(usize),
     Read(ReadFault),
 }
 
 // A transformation's own refusals.
-#[derive(Clone, Copy)]
+#[derive(Clone, Copy, PartialEq, Eq, Debug)]
 pub enum StageFault {
     WrongSource,
     DraftTooLarge,
 }
 
 // A draft that is refused; the number is its node.
-#[derive(Clone, Copy)]
+#[derive(Clone, Copy, PartialEq, Eq, Debug)]
 pub enum RepairFault {
     FromNoName(usize),
     SpelledApart(usize),
@@ -39,21 +39,21 @@ pub enum RepairFault {
 }
 
 // Mending outside a session that is refused.
-#[derive(Clone, Copy)]
+#[derive(Clone, Copy, PartialEq, Eq, Debug)]
 pub enum MendFault {
     TooShort,
     Repair(RepairFault),
 }
 
 // What a transformation, repaired or not, and a stage refuse with.
-#[derive(Clone, Copy)]
+#[derive(Clone, Copy, PartialEq, Eq, Debug)]
 pub enum DraftFault {
     Stage(StageFault),
     Repair(RepairFault),
 }
 
 // The session's own refusals, and those of the layers below, whole.
-#[derive(Clone, Copy)]
+#[derive(Clone, Copy, PartialEq, Eq, Debug)]
 pub enum SessionFault {
     Read(ReadFault),
     Stage(StageFault),
@@ -63,7 +63,7 @@ pub enum SessionFault {
     NoSuch(usize),
 }
 
-#[derive(Clone, Copy)]
+#[derive(Clone, Copy, PartialEq, Eq, Debug)]
 pub enum Layer {
     Reading,
     Staging,

@@ -1,9 +1,8 @@
 // Grammars: which kinds may be the root of a program, and which may stand below it.
 ghost use Rattle.std.specs.Prelude.{◌≡◌};
-ghost use Rattle.model.specs.Lists.{any};
-ghost use Rattle.model.specs.Kinds.{Grammar as KindsAllowed, is, same_sort, stands_under, allowed, card_grammar, tree_grammar, flat_grammar, root_grammar};
+ghost use Rattle.model.specs.Kinds.{Grammar as KindsAllowed, is, stands_under, allowed, of_roots, root_grammar};
 
-use crate::kinds::{Kind, Sort, row, same_kind};
+use crate::kinds::{Kind, Sort};
 
 pub trait Grammar {
     ghost grammar: { KindsAllowed };
@@ -33,59 +32,58 @@ pub struct Flats;
 #[derive(Clone, Copy)]
 pub struct ByRoot;
 
-fn same_sort(a: Sort, b: Sort) -> bool
-    ensures { result ≡ same_sort a b }
-{
-    a as usize == b as usize
-}
-
-fn is_among(kinds: &[Kind], kind: Kind) -> bool
-    ensures { result ≡ any (is kind) kinds.now }
-{
-    for named in kinds {
-        if same_kind(kind, *named) {
-            return true;
-        }
-    }
-    false
-}
-
 // Whether the kind's row names the root.
 fn stands_under(root: Kind, kind: Kind) -> bool
     ensures { result ≡ stands_under root kind }
 {
-    is_among(row(kind).under, root)
+    kind.row().under.contains(&root)
 }
 
-impl Grammar for Cards {
-    ghost grammar = { card_grammar };
+// A grammar with roots of one kind.
+trait OneRoot {
+    ghost use Rattle.model.specs.declared.kinds.Kind.{Kind};
 
-    fn is_root(kind: Kind) -> bool {
-        same_kind(Kind::Card, kind)
-    }
+    ghost root: { Kind };
 
-    fn is_below(root: Kind, kind: Kind) -> bool {
-        stands_under(root, kind)
-    }
+    fn root() -> Kind
+        ensures { result ≡ root };
 }
 
-impl Grammar for Trees {
-    ghost grammar = { tree_grammar };
+impl OneRoot for Cards {
+    ghost use Rattle.model.specs.declared.kinds.Kind.TheVariants.{Card};
 
-    fn is_root(kind: Kind) -> bool {
-        same_kind(Kind::Tree, kind)
-    }
+    ghost root = { Card };
 
-    fn is_below(root: Kind, kind: Kind) -> bool {
-        stands_under(root, kind)
+    fn root() -> Kind {
+        Kind::Card
     }
 }
 
-impl Grammar for Flats {
-    ghost grammar = { flat_grammar };
+impl OneRoot for Trees {
+    ghost use Rattle.model.specs.declared.kinds.Kind.TheVariants.{Tree};
+
+    ghost root = { Tree };
+
+    fn root() -> Kind {
+        Kind::Tree
+    }
+}
+
+impl OneRoot for Flats {
+    ghost use Rattle.model.specs.declared.kinds.Kind.TheVariants.{Flat};
+
+    ghost root = { Flat };
+
+    fn root() -> Kind {
+        Kind::Flat
+    }
+}
+
+impl<R: OneRoot> Grammar for R {
+    ghost grammar = { of_roots (is R.root) };
 
     fn is_root(kind: Kind) -> bool {
-        same_kind(Kind::Flat, kind)
+        R::root() == kind
     }
 
     fn is_below(root: Kind, kind: Kind) -> bool {
@@ -97,7 +95,7 @@ impl Grammar for ByRoot {
     ghost grammar = { root_grammar };
 
     fn is_root(kind: Kind) -> bool {
-        same_sort(row(kind).sort, Sort::Root)
+        kind.row().sort == Sort::Root
     }
 
     fn is_below(root: Kind, kind: Kind) -> bool {
@@ -109,10 +107,10 @@ impl Grammar for ByRoot {
 pub fn is_allowed<G: Grammar>(root: Kind, sort: Sort, kind: Kind) -> bool
     ensures { result ≡ allowed G.Grammar.grammar root sort kind }
 {
-    if !same_sort(row(kind).sort, sort) {
+    if kind.row().sort != sort {
         return false;
     }
-    if same_sort(sort, Sort::Root) {
+    if sort == Sort::Root {
         G::is_root(kind)
     } else {
         G::is_below(root, kind)

@@ -1,10 +1,10 @@
 // The 25 kinds, and the table that grammar, reader and writer go by.
 ghost use Rattle.std.specs.Prelude.{◌≡◌, ◌+◌, map};
-ghost use Rattle.model.specs.Kinds.{is, role_named, declares, kind_number};
+ghost use Rattle.model.specs.Kinds.{role_named, declares, kind_number};
 ghost use Rattle.model.specs.Fields.{kind_of};
 ghost use Rattle.model.specs.Table.{shown, table, row_of};
 
-#[derive(Clone, Copy)]
+#[derive(Clone, Copy, PartialEq, Eq, Debug)]
 pub enum Kind {
     Card,
     Tree,
@@ -34,7 +34,7 @@ pub enum Kind {
 }
 
 // What a kind does with its name.
-#[derive(Clone, Copy)]
+#[derive(Clone, Copy, PartialEq, Eq, Debug)]
 pub enum Role {
     Plain,
     Declares,
@@ -42,7 +42,7 @@ pub enum Role {
 }
 
 // The sort of place that a kind stands at.
-#[derive(Clone, Copy)]
+#[derive(Clone, Copy, PartialEq, Eq, Debug)]
 pub enum Sort {
     Root,
     Line,
@@ -51,7 +51,7 @@ pub enum Sort {
     Expression,
 }
 
-#[derive(Clone, Copy)]
+#[derive(Clone, Copy, PartialEq, Eq, Debug)]
 pub enum Children {
     Exactly(&'static [Sort]),
     // as many as the node's number says
@@ -59,10 +59,10 @@ pub enum Children {
 }
 
 // What is to be known of a kind. One without a number has no largest one.
-#[derive(Clone, Copy)]
+#[derive(Clone, Copy, PartialEq, Eq, Debug)]
 pub struct KindRow {
     pub kind: Kind,
-    pub word: &'static [u8],
+    pub word: &'static str,
     pub sort: Sort,
     pub role: Role,
     pub most: Option<u32>,
@@ -74,7 +74,7 @@ pub struct KindRow {
 pub static KINDS: [KindRow; 25] = [
     KindRow {
         kind: Kind::Card,
-        word: b"card",
+        word: "card",
         sort: Sort::Root,
         role: Role::Plain,
         most: Some(255),
@@ -83,7 +83,7 @@ pub static KINDS: [KindRow; 25] = [
     },
     KindRow {
         kind: Kind::Tree,
-        word: b"tree",
+        word: "tree",
         sort: Sort::Root,
         role: Role::Plain,
         most: None,
@@ -92,7 +92,7 @@ pub static KINDS: [KindRow; 25] = [
     },
     KindRow {
         kind: Kind::Flat,
-        word: b"flat",
+        word: "flat",
         sort: Sort::Root,
         role: Role::Plain,
         most: Some(1023),
@@ -101,7 +101,7 @@ pub static KINDS: [KindRow; 25] = [
     },
     KindRow {
         kind: Kind::Field,
-        word: b"field",
+        word: "field",
         sort: Sort::Line,
         role: Role::Declares,
         most: Some(254),
@@ -110,7 +110,7 @@ pub static KINDS: [KindRow; 25] = [
     },
     KindRow {
         kind: Kind::Def,
-        word: b"def",
+        word: "def",
         sort: Sort::Line,
         role: Role::Declares,
         most: None,
@@ -119,7 +119,7 @@ pub static KINDS: [KindRow; 25] = [
     },
     KindRow {
         kind: Kind::Out,
-        word: b"out",
+        word: "out",
         sort: Sort::Line,
         role: Role::Plain,
         most: None,
@@ -128,7 +128,7 @@ pub static KINDS: [KindRow; 25] = [
     },
     KindRow {
         kind: Kind::Let,
-        word: b"let",
+        word: "let",
         sort: Sort::Statement,
         role: Role::Declares,
         most: None,
@@ -137,7 +137,7 @@ pub static KINDS: [KindRow; 25] = [
     },
     KindRow {
         kind: Kind::Put,
-        word: b"put",
+        word: "put",
         sort: Sort::Statement,
         role: Role::Plain,
         most: None,
@@ -146,7 +146,7 @@ pub static KINDS: [KindRow; 25] = [
     },
     KindRow {
         kind: Kind::End,
-        word: b"end",
+        word: "end",
         sort: Sort::Statement,
         role: Role::Plain,
         most: None,
@@ -155,7 +155,7 @@ pub static KINDS: [KindRow; 25] = [
     },
     KindRow {
         kind: Kind::Slot,
-        word: b"slot",
+        word: "slot",
         sort: Sort::Step,
         role: Role::Declares,
         most: None,
@@ -164,7 +164,7 @@ pub static KINDS: [KindRow; 25] = [
     },
     KindRow {
         kind: Kind::Label,
-        word: b"label",
+        word: "label",
         sort: Sort::Step,
         role: Role::Declares,
         most: None,
@@ -173,7 +173,7 @@ pub static KINDS: [KindRow; 25] = [
     },
     KindRow {
         kind: Kind::Set,
-        word: b"set",
+        word: "set",
         sort: Sort::Step,
         role: Role::Refers,
         most: None,
@@ -182,7 +182,7 @@ pub static KINDS: [KindRow; 25] = [
     },
     KindRow {
         kind: Kind::Goto,
-        word: b"goto",
+        word: "goto",
         sort: Sort::Step,
         role: Role::Refers,
         most: None,
@@ -191,7 +191,7 @@ pub static KINDS: [KindRow; 25] = [
     },
     KindRow {
         kind: Kind::Skip,
-        word: b"skip",
+        word: "skip",
         sort: Sort::Step,
         role: Role::Refers,
         most: None,
@@ -200,7 +200,7 @@ pub static KINDS: [KindRow; 25] = [
     },
     KindRow {
         kind: Kind::Emit,
-        word: b"emit",
+        word: "emit",
         sort: Sort::Step,
         role: Role::Plain,
         most: None,
@@ -209,7 +209,7 @@ pub static KINDS: [KindRow; 25] = [
     },
     KindRow {
         kind: Kind::Num,
-        word: b"num",
+        word: "num",
         sort: Sort::Expression,
         role: Role::Plain,
         most: Some(2147483647),
@@ -218,7 +218,7 @@ pub static KINDS: [KindRow; 25] = [
     },
     KindRow {
         kind: Kind::Ref,
-        word: b"ref",
+        word: "ref",
         sort: Sort::Expression,
         role: Role::Refers,
         most: None,
@@ -227,7 +227,7 @@ pub static KINDS: [KindRow; 25] = [
     },
     KindRow {
         kind: Kind::Byte,
-        word: b"byte",
+        word: "byte",
         sort: Sort::Expression,
         role: Role::Plain,
         most: Some(255),
@@ -236,7 +236,7 @@ pub static KINDS: [KindRow; 25] = [
     },
     KindRow {
         kind: Kind::Add,
-        word: b"add",
+        word: "add",
         sort: Sort::Expression,
         role: Role::Plain,
         most: None,
@@ -245,7 +245,7 @@ pub static KINDS: [KindRow; 25] = [
     },
     KindRow {
         kind: Kind::Mul,
-        word: b"mul",
+        word: "mul",
         sort: Sort::Expression,
         role: Role::Plain,
         most: None,
@@ -254,7 +254,7 @@ pub static KINDS: [KindRow; 25] = [
     },
     KindRow {
         kind: Kind::Mean,
-        word: b"mean",
+        word: "mean",
         sort: Sort::Expression,
         role: Role::Plain,
         most: None,
@@ -263,7 +263,7 @@ pub static KINDS: [KindRow; 25] = [
     },
     KindRow {
         kind: Kind::If,
-        word: b"if",
+        word: "if",
         sort: Sort::Expression,
         role: Role::Plain,
         most: None,
@@ -272,7 +272,7 @@ pub static KINDS: [KindRow; 25] = [
     },
     KindRow {
         kind: Kind::Bind,
-        word: b"bind",
+        word: "bind",
         sort: Sort::Expression,
         role: Role::Declares,
         most: None,
@@ -281,7 +281,7 @@ pub static KINDS: [KindRow; 25] = [
     },
     KindRow {
         kind: Kind::First,
-        word: b"first",
+        word: "first",
         sort: Sort::Expression,
         role: Role::Plain,
         most: None,
@@ -290,7 +290,7 @@ pub static KINDS: [KindRow; 25] = [
     },
     KindRow {
         kind: Kind::Level,
-        word: b"level",
+        word: "level",
         sort: Sort::Expression,
         role: Role::Plain,
         most: None,
@@ -306,57 +306,54 @@ pub fn all_kinds() -> &'static [KindRow]
     &KINDS
 }
 
-// The place of a kind in the table.
-fn place(kind: Kind) -> usize
-    ensures { result + 1 ≡ kind_number kind }
-{
-    kind as usize
-}
+impl Kind {
+    // The place in the table.
+    fn place(self) -> usize
+        ensures { result + 1 ≡ kind_number self }
+    {
+        self as usize
+    }
 
-// The row of a kind.
-pub fn row(kind: Kind) -> &'static KindRow
-    ensures { shown result.now ≡ row_of kind }
-{
-    &all_kinds()[place(kind)]
-}
+    // The kind's row.
+    pub fn row(self) -> &'static KindRow
+        ensures { shown result.now ≡ row_of self }
+    {
+        &all_kinds()[self.place()]
+    }
 
-// The kind of a word, if it is one's.
-pub fn kind_of(word: &[u8]) -> Option<Kind>
-    ensures { result ≡ kind_of word.now }
-{
-    for row in all_kinds() {
-        if row.word == word {
-            return Some(row.kind);
+    // The kind of a word, if it is one's.
+    pub fn of_word(word: &[u8]) -> Option<Kind>
+        ensures { result ≡ kind_of word.now }
+    {
+        for row in all_kinds() {
+            if row.word.as_bytes() == word {
+                return Some(row.kind);
+            }
+        }
+        None
+    }
+
+    // Whether it declares its name.
+    pub fn is_declaration(self) -> bool
+        ensures { result ≡ declares self }
+    {
+        match self.row().role {
+            Role::Plain => false,
+            Role::Declares => true,
+            Role::Refers => false,
         }
     }
-    None
 }
 
-// Whether a kind of that role has a name.
-pub fn has_name(role: Role) -> bool
-    ensures { result ≡ role_named role }
-{
-    match role {
-        Role::Plain => false,
-        Role::Declares => true,
-        Role::Refers => true,
+impl Role {
+    // Whether a kind of that role has a name.
+    pub fn has_name(self) -> bool
+        ensures { result ≡ role_named self }
+    {
+        match self {
+            Role::Plain => false,
+            Role::Declares => true,
+            Role::Refers => true,
+        }
     }
-}
-
-// Whether a kind declares its name.
-pub fn is_declaration(kind: Kind) -> bool
-    ensures { result ≡ declares kind }
-{
-    match row(kind).role {
-        Role::Plain => false,
-        Role::Declares => true,
-        Role::Refers => false,
-    }
-}
-
-// Whether two kinds are the same.
-pub fn same_kind(a: Kind, b: Kind) -> bool
-    ensures { result ≡ is a b }
-{
-    place(a) == place(b)
 }

@@ -3,10 +3,10 @@ ghost use Rattle.std.specs.Prelude.{◌≡◌, length, replicate};
 ghost use Rattle.model.specs.Names.{alike, same_stem, with_mark, unused_entry};
 ghost use Rattle.model.specs.Forest.{arity as children_wanted};
 
-use crate::kinds::{Children, Kind, row};
+use crate::kinds::{Children, Kind};
 
 // A stem has 1 to 8 characters, with zeros after them; mark 0 is the plain spelling.
-#[derive(Clone, Copy)]
+#[derive(Clone, Copy, PartialEq, Eq, Debug)]
 pub struct Name {
     pub stem: [u8; 8],
     pub mark: u16,
@@ -30,7 +30,7 @@ impl Name {
     pub fn is_like(&self, other: &Name) -> bool
         ensures { result ≡ alike self.now other.now }
     {
-        self.has_stem_of(other) && self.mark == other.mark
+        self == other
     }
 
     // The same stem with another mark.
@@ -42,7 +42,7 @@ impl Name {
 }
 
 // A kind without a name has `Name::NONE`, one without a number has 0.
-#[derive(Clone, Copy)]
+#[derive(Clone, Copy, PartialEq, Eq, Debug)]
 pub struct Node {
     pub kind: Kind,
     pub name: Name,
@@ -54,7 +54,7 @@ impl Node {
     pub fn arity(&self) -> usize
         ensures { result ≡ children_wanted self.now }
     {
-        match row(self.kind).children {
+        match self.kind.row().children {
             Children::Exactly(sorts) => sorts.len(),
             Children::AsMany(_) => self.number as usize,
         }
@@ -63,7 +63,7 @@ impl Node {
 
 // Where a name came from: the outside world, a node of the program that the draft was made from,
 // or a group of the transformation's own.
-#[derive(Clone, Copy)]
+#[derive(Clone, Copy, PartialEq, Eq, Debug)]
 pub enum Origin {
     Outer,
     Copied(u16),
@@ -72,7 +72,7 @@ pub enum Origin {
 
 // One place of a row: a node, and where its name came from. Where there is no name to come from
 // anywhere, and in plain texts, the origin is `Outer` and means nothing.
-#[derive(Clone, Copy)]
+#[derive(Clone, Copy, PartialEq, Eq, Debug)]
 pub struct Entry {
     pub node: Node,
     pub origin: Origin,

@@ -10,7 +10,7 @@ fn print_kinds(rt: &HostRuntime, program: &[Entry]) -> anyhow::Result<()> {
     for row in all_kinds() {
         let count = count_kind(program, row.kind);
         if count > 0 {
-            let word = lines::shown(rt.alloc(), row.word, ' ')?;
+            let word = row.word;
             println!(rt; "{count:>5} {word}")?;
         }
     }

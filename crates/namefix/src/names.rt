@@ -1,7 +1,6 @@
 // Says of each name of a script which declaration it reaches.
 use crate::{lines, refusals};
 use model::grammar::ByRoot;
-use model::kinds::{has_name, row};
 use model::nodes::Entry;
 use scope::language::Language;
 use script::reader::{MOST_NODES, read};
@@ -15,7 +14,7 @@ fn print_name(
     entry: &Entry,
     reach: Option<usize>,
 ) -> anyhow::Result<()> {
-    let word = lines::shown(rt.alloc(), row(entry.node.kind).word, ' ')?;
+    let word = entry.node.kind.row().word;
     let name = lines::spelling(rt.alloc(), &entry.node.name)?;
     print!(rt; "{at:>4}  {word:<5}  {name:<14}  ")?;
     match reach {
@@ -32,7 +31,7 @@ fn print_names(rt: &HostRuntime, text: &[u8], program: &[Entry]) -> anyhow::Resu
     let mut reached = vec![in rt.alloc(); None; MOST_NODES]?;
     ByRoot::find_all(program, &mut reached);
     for ((at, entry), reach) in program.iter().enumerate().zip(reached.iter()) {
-        if has_name(row(entry.node.kind).role) {
+        if entry.node.kind.row().role.has_name() {
             print_name(rt, text, at, entry, *reach)?;
         }
     }

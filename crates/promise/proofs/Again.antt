@@ -11,7 +11,8 @@ use Rattle.model.specs.Names.{alike, name_at, root_of, nodes}
 use Rattle.model.specs.Fitting.{Of, Program}
 use Rattle.model.specs.Forest.{shape}
 use Rattle.model.specs.Scopes.{Order, Language}
-use Rattle.model.specs.Classes.{Draft, Source, source_of, Class, class_at, classes, together, is_outer}
+use Rattle.model.specs.declared.classes.Class.{Class}
+use Rattle.model.specs.Classes.{Draft, Source, source_of, class_at, classes, together, is_outer}
 use Rattle.model.specs.Checks.{fault}
 use Rattle.model.specs.Repair.{captors, respell_all, Mended, one_more, repair_within, repair, mend}
 use Rattle.model.specs.Stages.{Transformation, within_limit, limited, meaning, Repaired, mended_in, with_origins, mended_draft, repaired}

@@ -14,7 +14,9 @@ use Rattle.model.specs.Names.{alike, name_at, kind_at, no_name, nodes, entry_at}
 use Rattle.model.specs.Fitting.{proper, number_fits, name_fits}
 use Rattle.model.specs.Forest.{shape}
 use Rattle.model.specs.Scopes.{Order, reach}
-use Rattle.model.specs.Classes.{Source, Class, of_outer, by_origin, of_copied, reach_at, class_of, classes, together, is_outer, is_inner, Draft, class_at, source_of}
+use Rattle.model.specs.declared.classes.Class.{Class}
+use Rattle.model.specs.declared.classes.Class.TheVariants.{OfOuter}
+use Rattle.model.specs.Classes.{Source, by_origin, of_copied, reach_at, class_of, classes, together, is_outer, is_inner, Draft, class_at, source_of}
 use Rattle.model.specs.Checks.{unlike_free, copied_from_no_name, spelled_as, lowest_of, from_no_name, spelled_apart, outer_declared, lost, at_place, fault}
 use Rattle.model.specs.Repair.{Mended, mend, repair}
 use Rattle.model.specs.Rules.{Alike, Agree}
@@ -103,7 +105,7 @@ module _ (order : Order) (s t : Source) (A : AlikeSources s t) (d e : Draft) (G 
   cs' = classes t e
 
   copied_same : (k : ℕ) (r : Option ℕ) → reach_at s k ≡ r → of_copied s k r ≡ of_copied t k r
-  copied_same k None h = ap of_outer (A.free k h)
+  copied_same k None h = ap OfOuter (A.free k h)
   copied_same k (Some x) h = refl
 
   pub class_same : (i : ℕ) → class_at s d i ≡ class_at t e i
@@ -119,7 +121,7 @@ module _ (order : Order) (s t : Source) (A : AlikeSources s t) (d e : Draft) (G 
       go : (o : Origin) → (entry_at d i).origin ≡ o → class_at s d i ≡ Some (by_origin s (entry_at d i).node.name o) → by_origin s (entry_at d i).node.name o ≡ by_origin t (entry_at e i).node.name o
       go (Copied k) h c = copied_same k (reach_at s k) refl ∙ ap (of_copied t k) (A.reached k)
       go (Private g) h c = refl
-      go Outer h c = ap of_outer (outer_name s d e G i (ap is_outer c))
+      go Outer h c = ap OfOuter (outer_name s d e G i (ap is_outer c))
 
   pub classes_same : cs ≡ cs'
   classes_same = ext_get_or None cs cs' (length-map d (class_of s) ∙ draft_long s d e G ∙ sym (length-map e (class_of t))) (λ i _. class_same i)

@@ -3,25 +3,27 @@ use Rattle.std.proofs.Common.{◌≡◌, Bool, true, false, is_some, Some, None,
 use Rattle.std.proofs.lemmas.Bool.{false≢true, true≢false, eqb-true, eq-eqb}
 use Rattle.model.specs.declared.kinds.Kind.{Kind}
 use Rattle.model.specs.Kinds.{has_name, declares}
-use Rattle.model.specs.Classes.{Class, of_declaration, of_outer, of_group, same_class, together, is_outer, is_inner}
+use Rattle.model.specs.declared.classes.Class.{Class}
+use Rattle.model.specs.declared.classes.Class.TheVariants.{OfDeclaration, OfOuter, OfGroup}
+use Rattle.model.specs.Classes.{same_class, together, is_outer, is_inner}
 use Rattle.model.proofs.KindTables.{by_table}
 use Rattle.laws.proofs.NamesRead.{alike_same, same_alike}
 
 same_class_at : (a : Class) → same_class a a ≡ true
-same_class_at (of_declaration d) = eq-eqb d d refl
-same_class_at (of_outer a) = same_alike a a refl
-same_class_at (of_group g) = eq-eqb g g refl
+same_class_at (OfDeclaration d) = eq-eqb d d refl
+same_class_at (OfOuter a) = same_alike a a refl
+same_class_at (OfGroup g) = eq-eqb g g refl
 
 pub same_class_is : (a b : Class) → same_class a b ≡ true → a ≡ b
-same_class_is (of_declaration d) (of_declaration e) h = ap of_declaration (eqb-true d e h)
-same_class_is (of_declaration d) (of_outer b) h = absurd (false≢true h)
-same_class_is (of_declaration d) (of_group g) h = absurd (false≢true h)
-same_class_is (of_outer a) (of_declaration e) h = absurd (false≢true h)
-same_class_is (of_outer a) (of_outer b) h = ap of_outer (alike_same a b h)
-same_class_is (of_outer a) (of_group g) h = absurd (false≢true h)
-same_class_is (of_group g) (of_declaration e) h = absurd (false≢true h)
-same_class_is (of_group g) (of_outer b) h = absurd (false≢true h)
-same_class_is (of_group g) (of_group k) h = ap of_group (eqb-true g k h)
+same_class_is (OfDeclaration d) (OfDeclaration e) h = ap OfDeclaration (eqb-true d e h)
+same_class_is (OfDeclaration d) (OfOuter b) h = absurd (false≢true h)
+same_class_is (OfDeclaration d) (OfGroup g) h = absurd (false≢true h)
+same_class_is (OfOuter a) (OfDeclaration e) h = absurd (false≢true h)
+same_class_is (OfOuter a) (OfOuter b) h = ap OfOuter (alike_same a b h)
+same_class_is (OfOuter a) (OfGroup g) h = absurd (false≢true h)
+same_class_is (OfGroup g) (OfDeclaration e) h = absurd (false≢true h)
+same_class_is (OfGroup g) (OfOuter b) h = absurd (false≢true h)
+same_class_is (OfGroup g) (OfGroup k) h = ap OfGroup (eqb-true g k h)
 
 abbrev pub same_option : Option Class → Option Class → Bool
 same_option None None = true
@@ -65,15 +67,15 @@ none_is (Some x) h = absurd (true≢false h)
 
 pub outer_some : (c : Option Class) → is_outer c ≡ true → (is_some c ≡ true) × (is_inner c ≡ false)
 outer_some None h = absurd (false≢true h)
-outer_some (Some (of_declaration d)) h = absurd (false≢true h)
-outer_some (Some (of_outer a)) h = (refl, refl)
-outer_some (Some (of_group g)) h = absurd (false≢true h)
+outer_some (Some (OfDeclaration d)) h = absurd (false≢true h)
+outer_some (Some (OfOuter a)) h = (refl, refl)
+outer_some (Some (OfGroup g)) h = absurd (false≢true h)
 
 pub not_outer : (c : Option Class) → is_some c ≡ true → is_outer c ≡ false → is_inner c ≡ true
 not_outer None h o = absurd (false≢true h)
-not_outer (Some (of_declaration d)) h o = refl
-not_outer (Some (of_outer a)) h o = absurd (true≢false o)
-not_outer (Some (of_group g)) h o = refl
+not_outer (Some (OfDeclaration d)) h o = refl
+not_outer (Some (OfOuter a)) h o = absurd (true≢false o)
+not_outer (Some (OfGroup g)) h o = refl
 
 pub declares_named : (k : Kind) → declares k ≡ true → has_name k ≡ true
 declares_named k h = by_table declares has_name refl k h

@@ -13,7 +13,8 @@ use Rattle.model.specs.Kinds.{has_name, declares as kind_declares}
 use Rattle.model.specs.Names.{name_at, kind_at, blank}
 use Rattle.model.specs.Forest.{shape}
 use Rattle.model.specs.Scopes.{Order, reach_by}
-use Rattle.model.specs.Classes.{Class, in_class, together}
+use Rattle.model.specs.declared.classes.Class.{Class}
+use Rattle.model.specs.Classes.{in_class, together}
 use Rattle.model.specs.Repair.{leads, class_reached, captures, captors, marks, fresh, respell_all, round, Repairs, done, again, Mended, repair_within, one_more, classes_reached}
 use Rattle.model.specs.Rules.{Visible}
 use Rattle.laws.proofs.Reaches.{shape_kind}

@@ -18,7 +18,8 @@ use Rattle.model.specs.Fields.{stem_form}
 use Rattle.model.specs.Fitting.{fits, number_fits, name_fits, proper, Of, Program}
 use Rattle.model.specs.Forest.{shape}
 use Rattle.model.specs.Scopes.{Order, Language, reach, reach_by, reaches}
-use Rattle.model.specs.Classes.{Draft, Source, source_of, Class, class_of, classes, together}
+use Rattle.model.specs.declared.classes.Class.{Class}
+use Rattle.model.specs.Classes.{Draft, Source, source_of, class_of, classes, together}
 use Rattle.model.specs.Checks.{fault}
 use Rattle.model.specs.Repair.{marks, unused, fresh, respell, round, Repairs, Mended, repair, mend}
 use Rattle.model.specs.Rules.{kinds_of, numbers_of, Part, Alike}

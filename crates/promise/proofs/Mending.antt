@@ -11,7 +11,8 @@ use Rattle.model.specs.Kinds.{has_name, declares as kind_declares}
 use Rattle.model.specs.Names.{name_at, kind_at, node_at, blank, nodes, entry_at}
 use Rattle.model.specs.Forest.{shape}
 use Rattle.model.specs.Scopes.{Order, reach_by}
-use Rattle.model.specs.Classes.{Source, Class, class_of, classes, together, is_outer, is_inner, Draft, class_at, source_of}
+use Rattle.model.specs.declared.classes.Class.{Class}
+use Rattle.model.specs.Classes.{Source, class_of, classes, together, is_outer, is_inner, Draft, class_at, source_of}
 use Rattle.model.specs.Checks.{from_no_name, spelled_apart, spelled_as, outer_declared, lost, lowest_of, at_place, fault}
 use Rattle.model.specs.Repair.{Mended, repair, mend}
 use Rattle.model.specs.Rules.{kind_in, Visible}

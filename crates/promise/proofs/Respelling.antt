@@ -9,7 +9,8 @@ use Rattle.model.specs.Kinds.{has_name, declares}
 use Rattle.model.specs.Names.{name_at, kind_at, respelled}
 use Rattle.model.specs.Forest.{shape}
 use Rattle.model.specs.Scopes.{Order, reach_by}
-use Rattle.model.specs.Classes.{Class, together, is_outer}
+use Rattle.model.specs.declared.classes.Class.{Class}
+use Rattle.model.specs.Classes.{together, is_outer}
 use Rattle.model.specs.Repair.{leads, class_reached, captures, captors, fresh, respell, respell_all, round, Repairs, done, again, classes_reached}
 use Rattle.model.specs.Rules.{kinds_of, numbers_of, Visible}
 use Rattle.laws.proofs.Reaches.{same_kinds}

@@ -6,7 +6,8 @@ use Rattle.model.specs.Lists.{keep, first_with, counting}
 use Rattle.model.specs.Names.{name_at}
 use Rattle.model.specs.Forest.{shape}
 use Rattle.model.specs.Scopes.{Order, reach_by}
-use Rattle.model.specs.Classes.{Class, together}
+use Rattle.model.specs.declared.classes.Class.{Class}
+use Rattle.model.specs.Classes.{together}
 use Rattle.model.specs.Repair.{leads, captors, fresh, respell_all, round, Repairs, done, again}
 use Rattle.model.specs.Rules.{Visible}
 use Rattle.promise.specs.Rounds.{Classed, OneSpelling, Visits, Alone, RespelledOnce, Ends, RepairEnds, MarksSmall}

@@ -7,7 +7,8 @@ use Rattle.model.specs.declared.nodes.Origin.TheVariants.{Copied, Private, Outer
 use Rattle.model.specs.Lists.{is_none}
 use Rattle.model.specs.Kinds.{has_name}
 use Rattle.model.specs.Names.{name_at, kind_at, nodes, entry_at}
-use Rattle.model.specs.Classes.{Draft, Source, classes, class_at, of_declaration, of_group, by_origin, of_copied, reach_at}
+use Rattle.model.specs.declared.classes.Class.TheVariants.{OfDeclaration, OfGroup}
+use Rattle.model.specs.Classes.{Draft, Source, classes, class_at, by_origin, of_copied, reach_at}
 use Rattle.model.specs.Checks.{copied_from_no_name, lowest_of, spelled_as, unlike_free}
 use Rattle.laws.proofs.NamesRead.{alike_same}
 use Rattle.promise.proofs.Mending.{Checked, draft_node}
@@ -24,20 +25,20 @@ pub class_by : (s : Source) (d : Draft) (i : ℕ) (o : Origin) → has_name (kin
 class_by s d i o n e = class_named s d i n ∙ ap (λ o. Some (by_origin s (entry_at d i).node.name o)) e
 
 -- a name of a declaration's class is copied from one that reaches it
-pub of_decl : (s : Source) (a : Name) (o : Origin) (e : ℕ) → by_origin s a o ≡ of_declaration e → (k : ℕ) × (o ≡ Copied k) × (reach_at s k ≡ Some e)
+pub of_decl : (s : Source) (a : Name) (o : Origin) (e : ℕ) → by_origin s a o ≡ OfDeclaration e → (k : ℕ) × (o ≡ Copied k) × (reach_at s k ≡ Some e)
 of_decl s a (Copied k) e h = (k, refl, go (reach_at s k) h)
   where
-    go : (r : Option ℕ) → of_copied s k r ≡ of_declaration e → r ≡ Some e
+    go : (r : Option ℕ) → of_copied s k r ≡ OfDeclaration e → r ≡ Some e
     go None q = let z : ◌≡◌ {A = ℕ} 0 1 = cc in absurd (omega arith)
     go (Some x) q = let z : x ≡ e = cc in ap Some z
 of_decl s a (Private g) e h = let z : ◌≡◌ {A = ℕ} 0 1 = cc in absurd (omega arith)
 of_decl s a Outer e h = let z : ◌≡◌ {A = ℕ} 0 1 = cc in absurd (omega arith)
 
 -- a name of a group's class is private to it
-pub of_private : (s : Source) (a : Name) (o : Origin) (g : ℕ) → by_origin s a o ≡ of_group g → o ≡ Private g
+pub of_private : (s : Source) (a : Name) (o : Origin) (g : ℕ) → by_origin s a o ≡ OfGroup g → o ≡ Private g
 of_private s a (Copied k) g h = go (reach_at s k) h
   where
-    go : (r : Option ℕ) → of_copied s k r ≡ of_group g → Copied k ≡ Private g
+    go : (r : Option ℕ) → of_copied s k r ≡ OfGroup g → Copied k ≡ Private g
     go None q = let z : ◌≡◌ {A = ℕ} 0 1 = cc in absurd (omega arith)
     go (Some x) q = let z : ◌≡◌ {A = ℕ} 0 1 = cc in absurd (omega arith)
 of_private s a (Private x) g h = let z : x ≡ g = cc in ap Private z

@@ -10,7 +10,9 @@ use Rattle.model.specs.Kinds.{has_name}
 use Rattle.model.specs.Names.{name_at, kind_at, nodes, entry_at}
 use Rattle.model.specs.Forest.{shape}
 use Rattle.model.specs.Scopes.{Order, reach}
-use Rattle.model.specs.Classes.{Draft, Source, source_of, reach_at, Class, of_declaration, of_outer, of_group, of_copied, by_origin, class_at, is_outer, is_inner}
+use Rattle.model.specs.declared.classes.Class.{Class}
+use Rattle.model.specs.declared.classes.Class.TheVariants.{OfDeclaration, OfOuter, OfGroup}
+use Rattle.model.specs.Classes.{Draft, Source, source_of, reach_at, of_copied, by_origin, class_at, is_outer, is_inner}
 use Rattle.model.specs.Stages.{Repaired, World}
 use Rattle.model.specs.Book.{Book, loaded, entered, Group, Came, from_script, from_group, from_outside, came_from, came}
 use Rattle.model.specs.Rules.{Visible}
@@ -125,7 +127,7 @@ module _ (w : World) (V : Visible w.language.visible) (b : Book) (T : TrueNames 
       let nx = named_class s d x ∙ ap is_some (sym t ∙ h) in
       (x, R.reaches i ∙ cond-true (is_inner (class_at s d i)) _ _ k ∙ f, nx, SomeInj (sym (class_named s d x nx) ∙ sym t ∙ h))
 
-  outer : (i : ℕ) (a : Name) → class_at s d i ≡ Some (of_outer a) → (now_reach w b' i ≡ None) × (name_at b'.program i ≡ (entry_at d i).node.name)
+  outer : (i : ℕ) (a : Name) → class_at s d i ≡ Some (OfOuter a) → (now_reach w b' i ≡ None) × (name_at b'.program i ≡ (entry_at d i).node.name)
   outer i a h = (R.reaches i ∙ cond-false (is_inner (class_at s d i)) _ _ (ap is_inner h), R.outer_kept i (ap is_outer h) ∙ ap (λ n. n.name) (sym (draft_node d i)))
 
   -- copied from a name that is bound to declaration e, as the declaration x that it reaches is copied from k'
@@ -156,7 +158,7 @@ module _ (w : World) (V : Visible w.language.visible) (b : Book) (T : TrueNames 
       go : (o : Option ℕ) → now_reach w b k ≡ o → TrueName w b' i (came b k)
       go None h = let (f, z) = outer i _ (class_k None h) in free_stays w b b' refl k i (came b k) h (T k nk) f (z ∙ copied_spelled s sees d C i k n e (reach_k ∙ h))
       go (Some e₀) h =
-          let (x, rx, nx, cx) = inner i (of_declaration e₀) (class_k (Some e₀) h) refl in
+          let (x, rx, nx, cx) = inner i (OfDeclaration e₀) (class_k (Some e₀) h) refl in
           let (k', ex, hx) = of_decl s _ (entry_at d x).origin e₀ cx in
           let nk' = copied_named s sees d C x k' nx ex in
           let h' = sym (reaches_at order p k' (named_in p k' nk')) ∙ hx in
@@ -174,6 +176,6 @@ module _ (w : World) (V : Visible w.language.visible) (b : Book) (T : TrueNames 
       go : (o : Origin) → (entry_at d i).origin ≡ o → TrueName w b' i (came b' i)
       go (Copied k) e = as_came (Copied k) e (true_copied i k n e)
       go (Private g) e =
-          let (x, rx, nx, cx) = inner i (of_group g) (class_by s d i (Private g) n e) refl in
+          let (x, rx, nx, cx) = inner i (OfGroup g) (class_by s d i (Private g) n e) refl in
           as_came (Private g) e (x, rx, came_is b.drafts d x (Private g) (of_private s _ (entry_at d x).origin g cx))
       go Outer e = as_came Outer e (outer i _ (class_by s d i Outer n e))

@@ -5,7 +5,8 @@ use Rattle.model.specs.Kinds.{has_name}
 use Rattle.model.specs.Names.{name_at, kind_at, nodes}
 use Rattle.model.specs.Forest.{shape}
 use Rattle.model.specs.Scopes.{Order, reach}
-use Rattle.model.specs.Classes.{Source, Class, classes, together, is_outer, is_inner, Draft, class_at}
+use Rattle.model.specs.declared.classes.Class.{Class}
+use Rattle.model.specs.Classes.{Source, classes, together, is_outer, is_inner, Draft, class_at}
 use Rattle.model.specs.Repair.{Mended, Repairs, mend}
 use Rattle.model.specs.Stages.{with_origins}
 use Rattle.model.specs.Rules.{kinds_of, numbers_of, Visible}

@@ -7,7 +7,8 @@ use Rattle.model.specs.Kinds.{has_name, declares}
 use Rattle.model.specs.Names.{name_at, kind_at, nodes}
 use Rattle.model.specs.Forest.{shape}
 use Rattle.model.specs.Scopes.{Order}
-use Rattle.model.specs.Classes.{Draft, Source, Class, classes, together, is_outer}
+use Rattle.model.specs.declared.classes.Class.{Class}
+use Rattle.model.specs.Classes.{Draft, Source, classes, together, is_outer}
 use Rattle.model.specs.Checks.{fault}
 use Rattle.model.specs.Repair.{leads, classes_reached, captures, captors, marks, fresh, respell_all, round, Repairs, repair}
 use Rattle.model.specs.Rules.{kinds_of, numbers_of, Visible}

@@ -3,7 +3,8 @@ use Rattle.std.proofs.Common.{◌≡◌, ℕ, ◌+◌, ◌<◌, ◌≤◌, Bool,
 use Rattle.std.proofs.lemmas.List.{get_or-map, get_or_past}
 use Rattle.std.proofs.lemmas.Bool.{cases_lt, and_from, and_left, and_right, not_from_true, not_from_false}
 use Rattle.model.specs.Lists.{any, first_with, is_none, counting, places}
-use Rattle.model.specs.Classes.{Class, together}
+use Rattle.model.specs.declared.classes.Class.{Class}
+use Rattle.model.specs.Classes.{together}
 use Rattle.model.specs.Repair.{class_reached, leads, captures}
 use Rattle.promise.proofs.Lists.{any_count_at, first_none}
 use Rattle.repair.specs.Rounds.{classes_of, captured, lowest_captive}

@@ -3,7 +3,7 @@ use Rattle.std.proofs.Common.{◌≡◌, ℕ, suc, ◌+◌, ◌<◌, ◌≤◌, 
 use Rattle.std.proofs.lemmas.Bool.{false≢true, true≢false}
 use Rattle.model.specs.declared.nodes.Node.{Node}
 use Rattle.model.specs.declared.nodes.Entry.{Entry}
-use Rattle.model.specs.Classes.{Class}
+use Rattle.model.specs.declared.classes.Class.{Class}
 use Rattle.model.specs.Lists.{empty, places}
 use Rattle.model.specs.Names.{nodes}
 use Rattle.model.specs.Forest.{shape}

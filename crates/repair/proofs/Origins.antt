@@ -6,7 +6,8 @@ use Rattle.model.specs.declared.nodes.Name.{Name}
 use Rattle.model.specs.declared.nodes.Node.{Node}
 use Rattle.model.specs.declared.nodes.Entry.{Entry}
 use Rattle.model.specs.Names.{with_mark, name_at, respelled, nodes, blank_entry, entry_at}
-use Rattle.model.specs.Classes.{Class, together}
+use Rattle.model.specs.declared.classes.Class.{Class}
+use Rattle.model.specs.Classes.{together}
 use Rattle.model.specs.Repair.{marks, unused, fresh, respell}
 use Rattle.model.specs.Stages.{with_origins}
 use Rattle.laws.proofs.Entries.{node_of}

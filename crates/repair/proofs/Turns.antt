@@ -8,7 +8,8 @@ use Rattle.model.specs.Lists.{keep, counting, empty}
 use Rattle.model.specs.Names.{nodes}
 use Rattle.model.specs.Forest.{shape}
 use Rattle.model.specs.Scopes.{Order, reach_by, reaches}
-use Rattle.model.specs.Classes.{Class, together}
+use Rattle.model.specs.declared.classes.Class.{Class}
+use Rattle.model.specs.Classes.{together}
 use Rattle.model.specs.Repair.{leads, class_reached, captures, classes_reached, respell_all}
 use Rattle.model.specs.Stages.{with_origins}
 use Rattle.laws.proofs.RoundTrips.{length_nodes}

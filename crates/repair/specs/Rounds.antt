@@ -1,7 +1,8 @@
 -- What a round asks of the names.
 use Rattle.std.specs.Prelude.{ℕ, Bool, not, ◌&&◌, List, map, None, Option, slice_index_or}
 use Rattle.model.specs.Lists.{first_with, places}
-use Rattle.model.specs.Classes.{Class, together}
+use Rattle.model.specs.declared.classes.Class.{Class}
+use Rattle.model.specs.Classes.{together}
 use Rattle.model.specs.Repair.{class_reached}
 
 -- of a row of reaches, the class of each declaration that is reached

@@ -7,7 +7,6 @@ ghost use Rattle.model.specs.Repair.{marks, unused};
 ghost use Rattle.model.specs.MarkRow.{Shows};
 ghost use Rattle.repair.specs.Marks.{of_stem, with_plain, lowest_free};
 
-use model::kinds::{has_name, row};
 use model::nodes::{Entry, Name, Node};
 
 // Marks are noted in the first words of a row, as many as this.
@@ -34,7 +33,7 @@ impl Drop for MarkRow<'_> {
 fn is_of_stem(node: &Node, name: &Name) -> bool
     ensures { result ≡ of_stem name.now node.now }
 {
-    has_name(row(node.kind).role) && name.has_stem_of(&node.name)
+    node.kind.row().role.has_name() && name.has_stem_of(&node.name)
 }
 
 // Sets the bit of a mark.

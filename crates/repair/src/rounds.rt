@@ -5,7 +5,6 @@ ghost use Rattle.model.specs.Lists.{empty};
 ghost use Rattle.model.specs.Names.{nodes, name_at};
 ghost use Rattle.model.specs.Forest.{shape};
 ghost use Rattle.model.specs.Classes.{together};
-ghost use Rattle.model.specs.CodeClasses.{shown_option, shown_classes};
 ghost use Rattle.model.specs.Repair.{class_reached, leads as leads_class, captures, captors, fresh, respell as respelled_class, round as one_round, repair};
 ghost use Rattle.model.specs.Stages.{with_origins};
 ghost use Rattle.promise.specs.Rounds.{Classed};
@@ -21,7 +20,7 @@ const MOST_NODES: usize = 1024;
 
 // Whether both are names, of one class.
 fn are_together(a: Option<Class>, b: Option<Class>) -> bool
-    ensures { result ≡ together (shown_option a) (shown_option b) }
+    ensures { result ≡ together a b }
 {
     match (a, b) {
         (Some(class), Some(other)) => class.is_same(&other),
@@ -32,7 +31,7 @@ fn are_together(a: Option<Class>, b: Option<Class>) -> bool
 // Whether no lower name is of its class.
 fn leads(classes: &[Option<Class>], at: usize) -> bool
     requires { at < length classes.now }
-    ensures { result ≡ leads_class (shown_classes classes.now) at }
+    ensures { result ≡ leads_class classes.now at }
 {
     for lower in 0..at {
         if are_together(classes[at], classes[lower]) {
@@ -44,7 +43,7 @@ fn leads(classes: &[Option<Class>], at: usize) -> bool
 
 // The class of what a name reaches.
 fn class_reached(classes: &[Option<Class>], reached: Option<usize>) -> Option<Class>
-    ensures { shown_option result ≡ class_reached (shown_classes classes.now) reached }
+    ensures { result ≡ class_reached classes.now reached }
 {
     match reached {
         Some(declaration) => {
@@ -62,7 +61,7 @@ fn class_reached(classes: &[Option<Class>], reached: Option<usize>) -> Option<Cl
 fn captive(classes: &[Option<Class>], reached: &[Option<usize>], captor: usize) -> Option<usize>
     requires within { captor < length classes.now }
     requires long { length classes.now ≤ length reached.now }
-    ensures { result ≡ lowest_captive (shown_classes classes.now) (classes_of (shown_classes classes.now) reached.now) captor }
+    ensures { result ≡ lowest_captive classes.now (classes_of classes.now reached.now) captor }
 {
     let class = classes[captor];
     for at in 0..classes.len() {
@@ -78,7 +77,7 @@ fn captive(classes: &[Option<Class>], reached: &[Option<usize>], captor: usize) 
 fn is_captor(classes: &[Option<Class>], reached: &[Option<usize>], at: usize) -> bool
     requires within { at < length classes.now }
     requires long { length classes.now ≤ length reached.now }
-    ensures { result ≡ (leads_class (shown_classes classes.now) at && captures (shown_classes classes.now) (classes_of (shown_classes classes.now) reached.now) at) }
+    ensures { result ≡ (leads_class classes.now at && captures classes.now (classes_of classes.now reached.now) at) }
 {
     leads(classes, at) && captive(classes, reached, at).is_some()
 }
@@ -87,7 +86,7 @@ fn is_captor(classes: &[Option<Class>], reached: &[Option<usize>], at: usize) ->
 fn respell(entries: &mut [Entry], classes: &[Option<Class>], captor: usize, name: Name)
     requires within { captor < length classes.now }
     requires long { length classes.now ≡ length entries.old }
-    ensures { entries.new ≡ with_origins entries.old (respelled_class (slice_index_or (shown_classes classes.now) captor None) name (shown_classes classes.now) (nodes entries.old)) }
+    ensures { entries.new ≡ with_origins entries.old (respelled_class (slice_index_or classes.now captor None) name classes.now (nodes entries.old)) }
 {
     let class = classes[captor];
     for place in 0..entries.len() {
@@ -109,7 +108,7 @@ fn respell_freshly(
     requires few { length entries.old ≤ 1024 }
     requires wide { 16 ≤ length words.old }
     requires clear { words.old ≡ replicate (length words.old) 0 }
-    ensures after { entries.new ≡ with_origins entries.old (respelled_class (slice_index_or (shown_classes classes.now) captor None) (fresh (name_at (nodes entries.old) captor) (nodes entries.old)) (shown_classes classes.now) (nodes entries.old)) }
+    ensures after { entries.new ≡ with_origins entries.old (respelled_class (slice_index_or classes.now captor None) (fresh (name_at (nodes entries.old) captor) (nodes entries.old)) classes.now (nodes entries.old)) }
     ensures clear { words.new ≡ replicate (length words.old) 0 }
 {
     let name = entries[captor].node.name;
@@ -123,8 +122,8 @@ fn round<T: Language>(entries: &mut [Entry], classes: &[Option<Class>], words: &
     requires few { length entries.old ≤ 1024 }
     requires wide { 16 ≤ length words.old }
     requires clear { words.old ≡ replicate (length words.old) 0 }
-    ensures found { result ≡ not (empty (captors (T.Language.visible (shape (nodes entries.old))) (shown_classes classes.now) (nodes entries.old))) }
-    ensures after { entries.new ≡ with_origins entries.old (one_round (T.Language.visible (shape (nodes entries.old))) (shown_classes classes.now) (nodes entries.old)) }
+    ensures found { result ≡ not (empty (captors (T.Language.visible (shape (nodes entries.old))) classes.now (nodes entries.old))) }
+    ensures after { entries.new ≡ with_origins entries.old (one_round (T.Language.visible (shape (nodes entries.old))) classes.now (nodes entries.old)) }
     ensures clear { words.new ≡ replicate (length words.old) 0 }
 {
     let mut reached = [None; MOST_NODES];
@@ -149,9 +148,9 @@ pub fn repair_names<T: Language>(
     requires few { length entries.old ≤ 1024 }
     requires wide { 16 ≤ length words.old }
     requires clear { words.old ≡ replicate (length words.old) 0 }
-    requires classed { Classed (shown_classes classes.now) (nodes entries.old) }
-    ensures rounds { result ≡ (repair (T.Language.visible (shape (nodes entries.old))) (shown_classes classes.now) (nodes entries.old)).rounds }
-    ensures after { entries.new ≡ with_origins entries.old (repair (T.Language.visible (shape (nodes entries.old))) (shown_classes classes.now) (nodes entries.old)).program }
+    requires classed { Classed classes.now (nodes entries.old) }
+    ensures rounds { result ≡ (repair (T.Language.visible (shape (nodes entries.old))) classes.now (nodes entries.old)).rounds }
+    ensures after { entries.new ≡ with_origins entries.old (repair (T.Language.visible (shape (nodes entries.old))) classes.now (nodes entries.old)).program }
     ensures clear { words.new ≡ replicate (length words.old) 0 }
 {
     let mut count: usize = 0;

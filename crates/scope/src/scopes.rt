@@ -9,7 +9,7 @@ ghost use Rattle.scope.specs.Finding.{Found};
 ghost use Rattle.scope.specs.Seeking.{sought};
 
 use model::grammar::Grammar;
-use model::kinds::{Role, is_declaration, row};
+use model::kinds::Role;
 use model::nodes::{Entry, Name};
 
 // A language by the scopes of its references.
@@ -28,7 +28,7 @@ pub trait Scopes: Grammar {
 pub fn declares_as(entry: &Entry, name: &Name) -> bool
     ensures { result ≡ (declares entry.now.node.kind && alike name.now entry.now.node.name) }
 {
-    is_declaration(entry.node.kind) && name.is_like(&entry.node.name)
+    entry.node.kind.is_declaration() && name.is_like(&entry.node.name)
 }
 
 // What the name at a place reaches.
@@ -38,7 +38,7 @@ pub fn find_by_role<S: Scopes>(program: &[Entry], at: usize) -> Option<usize>
     if at >= program.len() {
         return None;
     }
-    match row(program[at].node.kind).role {
+    match program[at].node.kind.row().role {
         Role::Plain => None,
         Role::Declares => Some(at),
         Role::Refers => S::seek(program, at),

@@ -7,7 +7,7 @@ ghost use Rattle.laws.proofs.Orders.{orders_visible_lem, languages_parts_lem};
 use crate::language::{Language, Part};
 use crate::scopes::{Scopes, find_by_role};
 use model::grammar::{ByRoot, Trees};
-use model::kinds::{Kind, same_kind};
+use model::kinds::Kind;
 use model::nodes::{Entry, Name};
 
 // Whether the entry declares a name that is spelled so, for its last child to see.
@@ -15,7 +15,7 @@ fn scopes_as(entry: &Entry, name: &Name) -> bool
     ensures { result ≡ (scopes_its_last entry.now.node.kind && alike name.now entry.now.node.name) }
 {
     let kind = entry.node.kind;
-    (same_kind(kind, Kind::Let) || same_kind(kind, Kind::Bind)) && name.is_like(&entry.node.name)
+    (kind == Kind::Let || kind == Kind::Bind) && name.is_like(&entry.node.name)
 }
 
 impl Scopes for Trees {

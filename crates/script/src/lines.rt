@@ -4,7 +4,7 @@ ghost use Rattle.script.specs.LineReads.{NextEnd, FieldRead, name_from, number_f
 ghost use Rattle.script.specs.Forms.{form_of};
 
 use crate::fields::{find, name, number, origin};
-use model::kinds::{Role, has_name, kind_of, row};
+use model::kinds::{Kind, Role};
 use model::nodes::{Entry, Name, Node, Origin};
 
 // Whether a text is a script, or a draft with the origins of its names.
@@ -37,7 +37,7 @@ fn name_at(role: Role, line: &[u8], at: usize) -> Option<FieldAt<Name>>
     requires { at ≤ length line.now }
     ensures { FieldRead (name_from role (fields_from (drop at line.now))) line.now result }
 {
-    if !has_name(role) {
+    if !role.has_name() {
         return Some(FieldAt {
             value: Name::NONE,
             at,
@@ -66,7 +66,7 @@ fn has_origin(form: Form, role: Role) -> bool
 {
     match form {
         Form::Script => false,
-        Form::Draft => has_name(role),
+        Form::Draft => role.has_name(),
     }
 }
 
@@ -91,8 +91,8 @@ pub fn read_line(form: Form, line: &[u8]) -> Option<Entry>
     ensures { result ≡ entry_of (form_of form) line.now }
 {
     let word_end = find(line, 0, b'\t');
-    let kind = kind_of(&line[..word_end])?;
-    let kind_row = row(kind);
+    let kind = Kind::of_word(&line[..word_end])?;
+    let kind_row = kind.row();
     let named = name_at(kind_row.role, line, word_end)?;
     let numbered = number_at(kind_row.most, line, named.at)?;
     let traced = origin_at(form, kind_row.role, line, numbered.at)?;

@@ -3,7 +3,7 @@ ghost use Rattle.std.specs.Prelude.{◌≡◌, ◌+◌, ◌-◌, ◌<◌, ◌≤
 ghost use Rattle.model.specs.Kinds.{child_sorts};
 ghost use Rattle.script.specs.Runs.{to_come};
 
-use model::kinds::{Children, Kind, Sort, row};
+use model::kinds::{Children, Kind, Sort};
 
 // As many nodes of a sort, one after another.
 #[derive(Clone, Copy)]
@@ -71,7 +71,7 @@ pub fn push_children(runs: &mut [Run], top: usize, kind: Kind, number: u32) -> u
     ensures end { result ≤ top + 3 }
     ensures after { to_come runs.new result ≡ child_sorts kind number ++ to_come runs.old top }
 {
-    match row(kind).children {
+    match kind.row().children {
         Children::AsMany(sort) => push(runs, top, sort, number),
         Children::Exactly(sorts) => push_all(runs, top, sorts),
     }

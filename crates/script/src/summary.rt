@@ -4,7 +4,7 @@ ghost use Rattle.model.specs.Reading.{lines};
 ghost use Rattle.script.specs.Summaries.{of_kind, no_line};
 
 use crate::fields::find;
-use model::kinds::{Kind, same_kind};
+use model::kinds::Kind;
 use model::nodes::Entry;
 
 // How many nodes are of a kind.
@@ -13,7 +13,7 @@ pub fn count_kind(program: &[Entry], kind: Kind) -> usize
 {
     let mut count = 0;
     for entry in program {
-        if same_kind(kind, entry.node.kind) {
+        if entry.node.kind == kind {
             count += 1;
         }
     }

@@ -9,7 +9,7 @@ ghost use Rattle.script.specs.Trips.{WriteBack};
 use crate::buffers::{number_length, put_byte, put_bytes, put_number};
 use crate::reader::MOST_NODES;
 use model::faults::{ReadFault, TextFault};
-use model::kinds::{Role, has_name, row};
+use model::kinds::Role;
 use model::nodes::{Entry, Name};
 
 // How many characters a stem has before its zeros.
@@ -69,7 +69,7 @@ fn name_field_length(role: Role, name: &Name) -> usize
     ensures is { result ≡ length (name_text role name.now) }
     ensures small { result ≤ 20 }
 {
-    if has_name(role) {
+    if role.has_name() {
         name_length(name) + 1
     } else {
         0
@@ -82,7 +82,7 @@ fn put_name_field(out: &mut [u8], from: usize, role: Role, name: &Name) -> usize
     ensures end { result ≡ from + length (name_text role name.now) }
     ensures after { out.new ≡ pasted out.old from (name_text role name.now) }
 {
-    if !has_name(role) {
+    if !role.has_name() {
         return from;
     }
     let at = put_byte(out, from, b'\t');
@@ -118,7 +118,7 @@ fn line_length(entry: &Entry) -> usize
     ensures is { result ≡ length (write_line plain entry.now) }
     ensures small { result ≤ 64 }
 {
-    let kind_row = row(entry.node.kind);
+    let kind_row = entry.node.kind.row();
     kind_row.word.len()
         + name_field_length(kind_row.role, &entry.node.name)
         + number_field_length(kind_row.most, entry.node.number)
@@ -131,8 +131,8 @@ fn put_line(out: &mut [u8], from: usize, entry: &Entry) -> usize
     ensures end { result ≡ from + length (write_line plain entry.now) }
     ensures after { out.new ≡ pasted out.old from (write_line plain entry.now) }
 {
-    let kind_row = row(entry.node.kind);
-    let after_word = put_bytes(out, from, kind_row.word);
+    let kind_row = entry.node.kind.row();
+    let after_word = put_bytes(out, from, kind_row.word.as_bytes());
     let after_name = put_name_field(out, after_word, kind_row.role, &entry.node.name);
     let after_number = put_number_field(out, after_name, kind_row.most, entry.node.number);
     put_byte(out, after_number, b'\n')

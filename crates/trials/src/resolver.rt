@@ -1,6 +1,6 @@
 // A resolver for the trials alone: it goes through the nodes once, forward, and keeps the open ones on a stack.
 use model::grammar::{ByRoot, Grammar};
-use model::kinds::{Kind, Role, all_kinds, row, same_kind};
+use model::kinds::{Kind, Role, all_kinds};
 use model::nodes::{Entry, Name, Node, Origin};
 use std::alloc::{AllocError, Global};
 
@@ -77,12 +77,12 @@ impl Resolver {
         } else if depth == 0 {
             self.in_card = false;
         } else if depth == 1 && self.in_card {
-            let declares = matches!(row(kind).role, Role::Declares);
+            let declares = matches!(kind.row().role, Role::Declares);
             self.begin_line(declared, declares)?;
         }
         self.open.push(Open {
             declared,
-            opens_scope: same_kind(kind, Kind::Let) || same_kind(kind, Kind::Bind),
+            opens_scope: matches!(kind, Kind::Let | Kind::Bind),
             left: entry.node.arity(),
         })?;
         self.entered = self.entered.saturating_add(1);
@@ -91,7 +91,7 @@ impl Resolver {
 
     // By role: none, itself, or what its language says.
     fn by_role(&self, entry: &Entry, reference: Option<usize>) -> Option<usize> {
-        match row(entry.node.kind).role {
+        match entry.node.kind.row().role {
             Role::Plain => None,
             Role::Declares => Some(self.entered.saturating_sub(1)),
             Role::Refers => reference,
@@ -128,7 +128,7 @@ impl Resolver {
     pub fn in_flat(&self, program: &[Entry], entry: &Entry) -> Option<usize> {
         let mut found = None;
         for (at, other) in program.iter().enumerate().rev() {
-            if matches!(row(other.node.kind).role, Role::Declares)
+            if matches!(other.node.kind.row().role, Role::Declares)
                 && other.node.name.is_like(&entry.node.name)
             {
                 found = Some(at);
