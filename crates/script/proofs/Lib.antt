@@ -7,3 +7,5 @@ mod Stacks
 mod ReadParts
 mod Readings
 mod Summing
+mod Sinks
+mod Places

@@ -1,7 +1,5 @@
 -- A line's fields by their places, and the entry that they make.
-use Rattle.std.proofs.Common.{◌≡◌, ℕ, suc, ◌+◌, ◌-◌, ◌<◌, ◌≤◌, Bool, true, false, cond, eqb, List, [], ◌∷◌, ◌++◌, length, take, drop, Some, None, Option, sym, refl, ap, ◌∙◌, ⊎_elim, arith}
-use Rattle.std.proofs.lemmas.List.{drop_more, drop_all, drop-drop, take_all}
-use Rattle.std.proofs.lemmas.Bool.{cases_lt}
+use Rattle.std.proofs.Common.{◌≡◌, ℕ, List, [], ◌∷◌, ◌++◌, Some, None, Option, sym, refl, ap, ◌∙◌}
 use Rattle.model.specs.declared.kinds.Kind.{Kind}
 use Rattle.model.specs.declared.kinds.KindRow.{KindRow}
 use Rattle.model.specs.declared.kinds.Role.{Role}
@@ -16,54 +14,7 @@ use Rattle.model.specs.Names.{no_name}
 use Rattle.model.specs.Fields.{Form, plain, draft, the_name, the_number, the_origin, wanted, pieces, read_fields, bare, kind_of, name_field, number_field, origin_field}
 use Rattle.model.specs.Reading.{of_fields}
 use Rattle.model.specs.Table.{RowOf, shown, row_of}
-use Rattle.laws.proofs.Pieces.{cut}
-use Rattle.script.specs.Cuts.{before}
-use Rattle.script.specs.LineReads.{fields_from, Value, a_field, name_from, number_from, origin_from, entry_of}
-use Rattle.script.proofs.FieldParts.{pieces_all, pieces_first}
-
-abbrev split_at : List ℕ → ℕ → List (List ℕ)
-split_at bs b = take b bs ∷ fields_from (drop b bs)
-
--- the first piece, and the fields after it
-pub pieces_split : (bs : List ℕ) → before 9 bs ≤ length bs → pieces 9 bs ≡ take (before 9 bs) bs ∷ fields_from (drop (before 9 bs) bs)
-pieces_split bs h =
-    ⊎_elim
-    (λ l. pieces_first 9 bs l ∙ ap (λ (f : List (List ℕ)). take (before 9 bs) bs ∷ f) (sym (ap fields_from (drop_more bs (before 9 bs) 0 l))))
-    (λ l. let e : before 9 bs ≡ length bs = omega arith in
-    pieces_all 9 bs e ∙ (ap (λ (f : List ℕ). f ∷ []) (sym (take_all (before 9 bs) bs l)) ∙ ap (λ (f : List ℕ). take (before 9 bs) bs ∷ fields_from f) (sym (drop_all (before 9 bs) bs l))))
-    (cases_lt (before 9 bs) (length bs))
-
-pub before_within : (s : ℕ) (bs : List ℕ) → before s bs ≤ length bs
-before_within s [] = omega arith
-before_within s (b ∷ bs) = go (eqb b s) (before_within s bs)
-  where
-    go : (t : Bool) → before s bs ≤ length bs → cond t 0 (suc (before s bs)) ≤ suc (length bs)
-    go true h = omega arith
-    go false h = omega arith
-
-pub whole_split : (bs : List ℕ) (q : ℕ) → q ≡ 0 + before 9 bs → pieces 9 bs ≡ take q bs ∷ fields_from (drop q bs)
-whole_split bs q e = let z : before 9 bs ≡ q = omega arith in pieces_split bs (before_within 9 bs) ∙ ap (split_at bs) z
-
--- the next field stands between a tab and the next
-pub field_next : (line : List ℕ) (at e : ℕ) → at < length line → e ≡ at + 1 + before 9 (drop (at + 1) line) → fields_from (drop at line) ≡ take (e - (at + 1)) (drop (at + 1) line) ∷ fields_from (drop e line)
-field_next line at e h k =
-    let rest = drop (at + 1) line in
-    let b : before 9 rest ≡ e - (at + 1) = omega arith in
-    let s : at + 1 + (e - (at + 1)) ≡ e = omega arith in
-    ap fields_from (drop_more line at 0 h)
-    ∙ (pieces_split rest (before_within 9 rest)
-    ∙ (ap (split_at rest) b
-    ∙ ap (λ (l : List ℕ). take (e - (at + 1)) rest ∷ fields_from l) (drop-drop (e - (at + 1)) (at + 1) line ∙ ap (λ (j : ℕ). drop j line) s)))
-
-pub none_left : (line : List ℕ) (at : ℕ) → length line ≤ at → fields_from (drop at line) ≡ []
-none_left line at h = ap fields_from (drop_all at line h)
-
-pub some_left : (line : List ℕ) (at : ℕ) → at < length line → fields_from (drop at line) ≡ [] → ⊥
-some_left line at h e =
-    let c = cut 9 (drop (at + 1) line) in
-    let w : c.first ∷ c.more ≡ [] = sym c.are ∙ (sym (ap fields_from (drop_more line at 0 h)) ∙ e) in
-    let z : ◌≡◌ {A = ℕ} 0 1 = cc in
-    omega arith
+use Rattle.script.specs.LineReads.{Value, a_field, name_from, number_from, origin_from, entry_of}
 
 -- The entry that the fields make
 
@@ -127,26 +78,24 @@ entry_made form Refers most k fs = named_part form Refers most k fs
 
 -- The ways out of a line
 
-module _ (form : Form) (bs : List ℕ) (q : ℕ) (cut_at : q ≡ 0 + before 9 bs) where
-  line_at : (o : Option Kind) → kind_of (take q bs) ≡ o → entry_of form bs ≡ if_some o (λ k. read_fields (wanted form k) (fields_from (drop q bs)) (bare k))
+module _ (form : Form) (bs w : List ℕ) (fs : List (List ℕ)) (are : pieces 9 bs ≡ w ∷ fs) where
+  line_at : (o : Option Kind) → kind_of w ≡ o → entry_of form bs ≡ if_some o (λ k. read_fields (wanted form k) fs (bare k))
   unfolding entry_of
-  line_at o h =
-      ap (of_fields form) (whole_split bs q cut_at)
-      ∙ ap (λ (x : Option Kind). if_some x (λ k. read_fields (wanted form k) (fields_from (drop q bs)) (bare k))) h
+  line_at o h = ap (of_fields form) are ∙ ap (λ (x : Option Kind). if_some x (λ k. read_fields (wanted form k) fs (bare k))) h
 
-  pub line_no_kind : kind_of (take q bs) ≡ None → entry_of form bs ≡ None
+  pub line_no_kind : kind_of w ≡ None → entry_of form bs ≡ None
   line_no_kind h = line_at None h
 
-  module _ (k : Kind) (x : KindRow) (word : kind_of (take q bs) ≡ Some k) (row_is : shown x ≡ row_of k) where
-    line_kind : entry_of form bs ≡ entry_by form x.role x.most k (fields_from (drop q bs))
+  module _ (k : Kind) (x : KindRow) (word : kind_of w ≡ Some k) (row_is : shown x ≡ row_of k) where
+    line_kind : entry_of form bs ≡ entry_by form x.role x.most k fs
     line_kind =
         line_at (Some k) word
-        ∙ (entry_made form (row k).role (row k).most k (fields_from (drop q bs)) ∙ ap (λ (t : RowOf). entry_by form t.row.role t.row.most k (fields_from (drop q bs))) (sym row_is))
+        ∙ (entry_made form (row k).role (row k).most k fs ∙ ap (λ (t : RowOf). entry_by form t.row.role t.row.most k fs) (sym row_is))
 
-    pub line_no_name : name_from x.role (fields_from (drop q bs)) ≡ None → entry_of form bs ≡ None
+    pub line_no_name : name_from x.role fs ≡ None → entry_of form bs ≡ None
     line_no_name h = line_kind ∙ ap (λ (t : Option (Value Name)). if_some t (λ y. numbered form x.role x.most k y.value y.rest)) h
 
-    module _ (a : Name) (gs : List (List ℕ)) (name : name_from x.role (fields_from (drop q bs)) ≡ Some (record { value = a; rest = gs })) where
+    module _ (a : Name) (gs : List (List ℕ)) (name : name_from x.role fs ≡ Some (record { value = a; rest = gs })) where
       name_got : entry_of form bs ≡ numbered form x.role x.most k a gs
       name_got = line_kind ∙ ap (λ (t : Option (Value Name)). if_some t (λ y. numbered form x.role x.most k y.value y.rest)) name
 
@@ -167,9 +116,9 @@ module _ (form : Form) (bs : List ℕ) (q : ℕ) (cut_at : q ≡ 0 + before 9 bs
           pub line_done : is ≡ [] → entry_of form bs ≡ Some (made k a m o)
           line_done e = origin_got ∙ ap (ended k a m o) e
 
-          left_over : (fs : List (List ℕ)) → (fs ≡ [] → ⊥) → ended k a m o fs ≡ None
+          left_over : (gs : List (List ℕ)) → (gs ≡ [] → ⊥) → ended k a m o gs ≡ None
           left_over [] h = absurd (h refl)
-          left_over (f ∷ fs) h = refl
+          left_over (g ∷ gs) h = refl
 
           pub line_over : (is ≡ [] → ⊥) → entry_of form bs ≡ None
           line_over h = origin_got ∙ left_over is h

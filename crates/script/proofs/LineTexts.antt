@@ -68,7 +68,7 @@ four_puts d d₁ d₂ d₃ d₄ a b₁ b₂ b₃ s t u v h p₁ e₁ p₂ e₂ p
 
 -- Lines
 
-write_append : (p q : List Entry) → write_lines plain (p ++ q) ≡ write_lines plain p ++ write_lines plain q
+pub write_append : (p q : List Entry) → write_lines plain (p ++ q) ≡ write_lines plain p ++ write_lines plain q
 write_append [] q = refl
 write_append (n ∷ p) q =
     ap (λ (l : List ℕ). write_line plain n ++ l) (write_append p q) ∙ sym (append_assoc (write_line plain n) (write_lines plain p) (write_lines plain q))

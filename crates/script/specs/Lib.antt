@@ -1,8 +1,12 @@
 pub mod Buffers
 pub mod Cuts
+pub mod FieldsLeft
 pub mod Forms
 pub mod LineReads
 pub mod Runs
+pub mod PageLaws
+pub mod Pages
 pub mod Reads
+pub mod Sinks
 pub mod Summaries
 pub mod Trips

@@ -1,5 +1,5 @@
 -- A line's entry, field by field.
-use Rattle.std.specs.Prelude.{◌≡◌, ℕ, ◌+◌, ◌-◌, ◌≤◌, Bool, false, List, [], ◌∷◌, length, take, drop, Some, None, Option}
+use Rattle.std.specs.Prelude.{◌≡◌, ℕ, Bool, false, List, [], ◌∷◌, Some, None, Option}
 use Rattle.model.specs.declared.kinds.Role.{Role}
 use Rattle.model.specs.declared.kinds.Role.TheVariants.{Plain, Declares, Refers}
 use Rattle.model.specs.declared.nodes.Name.{Name}
@@ -11,12 +11,6 @@ use Rattle.model.specs.Kinds.{role_named}
 use Rattle.model.specs.Names.{no_name}
 use Rattle.model.specs.Fields.{Form, plain, draft, pieces, name_field, number_field, origin_field}
 use Rattle.model.specs.Reading.{of_fields}
-use Rattle.script.specs.declared.lines.FieldAt.{FieldAt}
-
--- the fields from a place on that is a tab or the end
-abbrev pub fields_from : List ℕ → List (List ℕ)
-fields_from [] = []
-fields_from (b ∷ bs) = pieces 9 bs
 
 -- a value, and the fields after its own
 pub record Value (A : Type 0) : Type 0 where
@@ -49,15 +43,10 @@ abbrev pub origin_wanted : Form → Role → Bool
 origin_wanted plain r = false
 origin_wanted draft r = role_named r
 
--- the next field stands between the tab at a place and the next, or there is none
-abbrev pub NextEnd : List ℕ → ℕ → Option ℕ → Type 0
-NextEnd line at None = fields_from (drop at line) ≡ []
-NextEnd line at (Some e) = (fields_from (drop at line) ≡ take (e - (at + 1)) (drop (at + 1) line) ∷ fields_from (drop e line)) × (at + 1 ≤ e) × (e ≤ length line)
-
--- the value read, and where the fields after it begin
-abbrev pub FieldRead : {A : Type 0} → Option (Value A) → List ℕ → Option (FieldAt A) → Type 0
-FieldRead w line None = w ≡ None
-FieldRead w line (Some x) = (w ≡ Some (record { value = x.value; rest = fields_from (drop x.at line) })) × (x.at ≤ length line)
+-- the value taken, and the fields after it
+abbrev pub IsTaken : {A : Type 0} → Option (Value A) → Option A → List (List ℕ) → Type 0
+IsTaken w None rest = w ≡ None
+IsTaken w (Some a) rest = w ≡ Some (record { value = a; rest = rest })
 
 -- the entry of a whole line, without its end
 unfoldable pub entry_of : Form → List ℕ → Option Entry

@@ -1,5 +1,5 @@
 -- Reading line by line into a row.
-use Rattle.std.specs.Prelude.{◌≡◌, ℕ, ◌+◌, ◌≤◌, cond, List, ◌++◌, length, take, drop, Some, None, Ok, Err, Option, Result, nat_lt}
+use Rattle.std.specs.Prelude.{◌≡◌, ℕ, ◌+◌, ◌<◌, cond, List, ◌++◌, length, take, drop, Some, None, Ok, Err, Option, Result, nat_lt}
 use Rattle.model.specs.declared.kinds.Kind.{Kind}
 use Rattle.model.specs.declared.kinds.Sort.{Sort}
 use Rattle.model.specs.declared.nodes.Entry.{Entry}
@@ -11,15 +11,15 @@ use Rattle.model.specs.Fields.{Form}
 use Rattle.model.specs.Reading.{TextLine, ReadOut, read_lines, counted}
 use Rattle.script.specs.Cuts.{before}
 use Rattle.script.specs.LineReads.{entry_of}
-use Rattle.script.specs.declared.reader.LineAt.{LineAt}
+use Rattle.script.specs.declared.reader.FirstLine.{FirstLine}
 
 -- the entry of the first line, if a byte 10 ends it
 unfoldable pub first_entry : Form → List ℕ → Option Entry
 first_entry form bs = cond (nat_lt (before 10 bs) (length bs)) (entry_of form (take (before 10 bs) bs)) None
 
-abbrev pub IsLineAt : Form → List ℕ → ℕ → Option LineAt → Type 0
-IsLineAt form text from None = first_entry form (drop from text) ≡ None
-IsLineAt form text from (Some x) = (first_entry form (drop from text) ≡ Some x.entry) × (x.next ≡ from + before 10 (drop from text) + 1) × (x.next ≤ length text)
+abbrev pub IsFirstLine : Form → List ℕ → Option FirstLine → Type 0
+IsFirstLine form text None = first_entry form text ≡ None
+IsFirstLine form text (Some x) = (first_entry form text ≡ Some x.entry) × (x.rest.now ≡ drop (before 10 text + 1) text) × (before 10 text < length text)
 
 -- the entries of the lines that are left
 unfoldable pub rest_read : Grammar → Form → Option Kind → List Sort → ℕ → List TextLine → ReadOut

@@ -1,5 +1,5 @@
 -- The sorts still to come, as a stack of runs: its last run comes first.
-use Rattle.std.specs.Prelude.{ℕ, List, [], ◌∷◌, ◌++◌, take, replicate}
+use Rattle.std.specs.Prelude.{◌≡◌, ℕ, List, [], ◌∷◌, ◌++◌, take, replicate, Some, None, Option}
 use Rattle.model.specs.declared.kinds.Sort.{Sort}
 use Rattle.script.specs.declared.pending.Run.{Run}
 
@@ -13,3 +13,13 @@ stacked acc (r ∷ rs) = stacked (run_of r ++ acc) rs
 -- what a stack of that height says
 abbrev pub to_come : List Run → ℕ → List Sort
 to_come runs top = stacked [] (take top runs)
+
+-- what a stack has still to come, and how many runs it is of
+pub record Coming : Type 0 where
+  pub sorts : List Sort
+  pub height : ℕ
+
+-- the first of a list taken, if there is one
+abbrev pub Taken : {A : Type 0} → List A → Option A → List A → Type 0
+Taken xs None ys = (xs ≡ []) × (ys ≡ [])
+Taken xs (Some x) ys = xs ≡ x ∷ ys

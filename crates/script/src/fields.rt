@@ -1,36 +1,24 @@
 // The fields of a line.
-ghost use Rattle.std.specs.Prelude.{◌≡◌, ◌+◌, ◌-◌, ◌*◌, ◌<◌, ◌≤◌, true, not, length, drop};
+ghost use Rattle.std.specs.Prelude.{◌≡◌, ◌+◌, ◌-◌, ◌*◌, ◌<◌, ◌≤◌, ◌==◌, true, length, position};
+ghost use Rattle.std.specs.List.{list_all};
 ghost use Rattle.std.specs.Str.{all_ascii_digits};
-ghost use Rattle.model.specs.Lists.{any};
 ghost use Rattle.model.specs.Names.{padded};
-ghost use Rattle.model.specs.Fields.{value_from, decimal_form, number_field, letter_or_digit, stem_form, name_field, origin_field, copied_field, private_field};
-ghost use Rattle.script.specs.Cuts.{before, at_most, stem_of};
+ghost use Rattle.model.specs.Fields.{value_from, decimal_form, number_field, letter_or_digit, stem_form, written_mark as mark_field, name_field, origin_field};
+ghost use Rattle.script.specs.Cuts.{at_most, stem_of};
 
-use crate::buffers::put_bytes;
 use model::nodes::{Name, Origin};
 
-// Where the first separator from a place on stands, or the end.
-pub fn find(bytes: &[u8], from: usize, sep: u8) -> usize
-    requires { from ≤ length bytes.now }
-    ensures is { result ≡ from + before sep (drop from bytes.now) }
-    ensures within { result ≤ length bytes.now }
+// Where a byte first stands.
+pub fn place_of(bytes: &[u8], byte: u8) -> Option<usize>
+    ensures { result ≡ position (λ b. b == byte) bytes.now }
 {
-    let mut at = from;
-    while at < bytes.len() && bytes[at] != sep {
-        at += 1;
-    }
-    at
+    bytes.iter().position(|b| *b == byte)
 }
 
 fn all_digits(field: &[u8]) -> bool
     ensures { result ≡ all_ascii_digits field.now }
 {
-    for b in field {
-        if !b.is_ascii_digit() {
-            return false;
-        }
-    }
-    true
+    field.iter().all(|b| b.is_ascii_digit())
 }
 
 // Digits, at least one, and no leading zero.
@@ -68,21 +56,24 @@ pub fn number(field: &[u8], most: u32) -> Option<u32>
     value_of(field, most)
 }
 
+// The same in 16 bits.
+fn short_number(field: &[u8], most: u16) -> Option<u16>
+    ensures { result ≡ number_field most field.now }
+{
+    let n = number(field, u32::from(most))?;
+    u16::try_from(n).ok()
+}
+
 fn is_letter_or_digit(c: u8) -> bool
     ensures { result ≡ letter_or_digit c }
 {
-    (c >= b'a' && c <= b'z') || (c >= b'0' && c <= b'9')
+    matches!(c, b'a'..=b'z' | b'0'..=b'9')
 }
 
-fn all_characters(rest: &[u8]) -> bool
-    ensures { result ≡ not (any (λ d. not (letter_or_digit d)) rest.now) }
+fn all_letters_or_digits(rest: &[u8]) -> bool
+    ensures { result ≡ list_all letter_or_digit rest.now }
 {
-    for c in rest {
-        if !is_letter_or_digit(*c) {
-            return false;
-        }
-    }
-    true
+    rest.iter().all(|c| is_letter_or_digit(*c))
 }
 
 // As many characters as a stem has at most.
@@ -93,7 +84,7 @@ fn is_stem(stem: &[u8]) -> bool
     ensures { result ≡ stem_form stem.now }
 {
     match stem {
-        [b'a'..=b'z', rest @ ..] => rest.len() < LONGEST_STEM && all_characters(rest),
+        [b'a'..=b'z', rest @ ..] => rest.len() < LONGEST_STEM && all_letters_or_digits(rest),
         _ => false,
     }
 }
@@ -104,7 +95,7 @@ fn pad(stem: &[u8]) -> [u8; 8]
     ensures { result ≡ padded stem.now }
 {
     let mut out = [0; 8];
-    let _end = put_bytes(&mut out, 0, stem);
+    out[..stem.len()].copy_from_slice(stem);
     out
 }
 
@@ -118,41 +109,27 @@ fn stem(bytes: &[u8]) -> Option<[u8; 8]>
     }
 }
 
+// A mark that is written is not 0.
+fn mark(field: &[u8]) -> Option<u16>
+    ensures { result ≡ mark_field field.now }
+{
+    short_number(field, 65535).filter(|mark| *mark != 0)
+}
+
 // A stem, or a stem, an apostrophe and a mark.
 pub fn name(field: &[u8]) -> Option<Name>
     ensures { result ≡ name_field field.now }
 {
-    let quote = find(field, 0, b'\'');
-    let stem = stem(&field[..quote])?;
-    if quote == field.len() {
-        return Some(Name { stem, mark: 0 });
-    }
-    let mark = number(&field[quote + 1..], 65535)?;
-    if mark == 0 {
-        return None;
-    }
+    let Some(quote) = place_of(field, b'\'') else {
+        return Some(Name {
+            stem: stem(field)?,
+            mark: 0,
+        });
+    };
     Some(Name {
-        stem,
-        mark: mark as u16,
+        stem: stem(&field[..quote])?,
+        mark: mark(&field[quote + 1..])?,
     })
-}
-
-fn copied(rest: &[u8]) -> Option<Origin>
-    ensures { result ≡ copied_field rest.now }
-{
-    match number(rest, 1023) {
-        Some(k) => Some(Origin::Copied(k as u16)),
-        None => None,
-    }
-}
-
-fn private(rest: &[u8]) -> Option<Origin>
-    ensures { result ≡ private_field rest.now }
-{
-    match number(rest, 65535) {
-        Some(g) => Some(Origin::Private(g as u16)),
-        None => None,
-    }
 }
 
 // `o`, or `s` and a node number, or `p` and a group.
@@ -160,8 +137,8 @@ pub fn origin(field: &[u8]) -> Option<Origin>
     ensures { result ≡ origin_field field.now }
 {
     match field {
-        [b's', rest @ ..] => copied(rest),
-        [b'p', rest @ ..] => private(rest),
+        [b's', rest @ ..] => short_number(rest, 1023).map(Origin::Copied),
+        [b'p', rest @ ..] => short_number(rest, 65535).map(Origin::Private),
         [b'o'] => Some(Origin::Outer),
         _ => None,
     }

@@ -1,9 +1,10 @@
 #![tactic(auto)]
 
-mod buffers;
 mod fields;
 mod lines;
 mod pending;
+mod pieces;
 pub mod reader;
+mod sink;
 pub mod summary;
 pub mod writer;

@@ -1,9 +1,11 @@
 // One line of a text.
-ghost use Rattle.std.specs.Prelude.{◌≡◌, ◌+◌, ◌≤◌, length, drop};
-ghost use Rattle.script.specs.LineReads.{NextEnd, FieldRead, name_from, number_from, origin_from, origin_wanted, fields_from, entry_of};
+ghost use Rattle.std.specs.Prelude.{◌≡◌};
+ghost use Rattle.script.specs.LineReads.{IsTaken, name_from, number_from, origin_from, origin_wanted, entry_of};
+ghost use Rattle.script.specs.FieldsLeft.{fields_left};
 ghost use Rattle.script.specs.Forms.{form_of};
 
-use crate::fields::{find, name, number, origin};
+use crate::fields::{name, number, origin};
+use crate::pieces::Fields;
 use model::kinds::{Kind, Role};
 use model::nodes::{Entry, Name, Node, Origin};
 
@@ -14,51 +16,25 @@ pub enum Form {
     Draft,
 }
 
-// The value of a field, and where the field ends.
-#[derive(Clone, Copy)]
-pub struct FieldAt<T> {
-    pub value: T,
-    pub at: usize,
-}
-
-// Where the field ends that begins after the tab at a place; none at the line's end.
-fn next_end(line: &[u8], at: usize) -> Option<usize>
-    requires { at ≤ length line.now }
-    ensures { NextEnd line.now at result }
+// The name, if the role has one.
+fn next_name(role: Role, fields: &mut Fields<'_>) -> Option<Name>
+    ensures { IsTaken (name_from role (fields_left fields.old)) result (fields_left fields.new) }
 {
-    if at == line.len() {
-        return None;
+    if role.has_name() {
+        name(fields.next()?)
+    } else {
+        Some(Name::NONE)
     }
-    Some(find(line, at + 1, b'\t'))
 }
 
-// The name after a place, if the role has one.
-fn name_at(role: Role, line: &[u8], at: usize) -> Option<FieldAt<Name>>
-    requires { at ≤ length line.now }
-    ensures { FieldRead (name_from role (fields_from (drop at line.now))) line.now result }
+// The number, if the kind has one.
+fn next_number(most: Option<u32>, fields: &mut Fields<'_>) -> Option<u32>
+    ensures { IsTaken (number_from most (fields_left fields.old)) result (fields_left fields.new) }
 {
-    if !role.has_name() {
-        return Some(FieldAt {
-            value: Name::NONE,
-            at,
-        });
+    match most {
+        Some(most) => number(fields.next()?, most),
+        None => Some(0),
     }
-    let end = next_end(line, at)?;
-    let value = name(&line[at + 1..end])?;
-    Some(FieldAt { value, at: end })
-}
-
-// The number after a place, if the kind has one.
-fn number_at(most: Option<u32>, line: &[u8], at: usize) -> Option<FieldAt<u32>>
-    requires { at ≤ length line.now }
-    ensures { FieldRead (number_from most (fields_from (drop at line.now))) line.now result }
-{
-    let Some(most) = most else {
-        return Some(FieldAt { value: 0, at });
-    };
-    let end = next_end(line, at)?;
-    let value = number(&line[at + 1..end], most)?;
-    Some(FieldAt { value, at: end })
 }
 
 fn has_origin(form: Form, role: Role) -> bool
@@ -70,42 +46,30 @@ fn has_origin(form: Form, role: Role) -> bool
     }
 }
 
-// The origin after a place, if the text gives one to such a kind.
-fn origin_at(form: Form, role: Role, line: &[u8], at: usize) -> Option<FieldAt<Origin>>
-    requires { at ≤ length line.now }
-    ensures { FieldRead (origin_from (form_of form) role (fields_from (drop at line.now))) line.now result }
+// The origin, if the text gives one to such a kind.
+fn next_origin(form: Form, role: Role, fields: &mut Fields<'_>) -> Option<Origin>
+    ensures { IsTaken (origin_from (form_of form) role (fields_left fields.old)) result (fields_left fields.new) }
 {
-    if !has_origin(form, role) {
-        return Some(FieldAt {
-            value: Origin::Outer,
-            at,
-        });
+    if has_origin(form, role) {
+        origin(fields.next()?)
+    } else {
+        Some(Origin::Outer)
     }
-    let end = next_end(line, at)?;
-    let value = origin(&line[at + 1..end])?;
-    Some(FieldAt { value, at: end })
 }
 
 // The entry of a line, if its word and its fields are right.
 pub fn read_line(form: Form, line: &[u8]) -> Option<Entry>
     ensures { result ≡ entry_of (form_of form) line.now }
 {
-    let word_end = find(line, 0, b'\t');
-    let kind = Kind::of_word(&line[..word_end])?;
-    let kind_row = kind.row();
-    let named = name_at(kind_row.role, line, word_end)?;
-    let numbered = number_at(kind_row.most, line, named.at)?;
-    let traced = origin_at(form, kind_row.role, line, numbered.at)?;
-    if traced.at != line.len() {
+    let mut fields = Fields::of(line);
+    let kind = Kind::of_word(fields.next()?)?;
+    let row = kind.row();
+    let name = next_name(row.role, &mut fields)?;
+    let number = next_number(row.most, &mut fields)?;
+    let origin = next_origin(form, row.role, &mut fields)?;
+    if fields.next().is_some() {
         return None;
     }
-    let node = Node {
-        kind,
-        name: named.value,
-        number: numbered.value,
-    };
-    Some(Entry {
-        node,
-        origin: traced.value,
-    })
+    let node = Node { kind, name, number };
+    Some(Entry { node, origin })
 }

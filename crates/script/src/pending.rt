@@ -1,9 +1,11 @@
 // The sorts of the nodes still to come, as a stack of runs whose last comes first.
-ghost use Rattle.std.specs.Prelude.{◌≡◌, ◌+◌, ◌-◌, ◌<◌, ◌≤◌, ◌∷◌, ◌++◌, length, replicate, slice_index_or};
+ghost use Rattle.std.specs.Prelude.{◌≡◌, ◌+◌, ◌<◌, ◌≤◌, [], ◌∷◌, ◌++◌, length, replicate};
+ghost use Rattle.model.specs.declared.kinds.Sort.TheVariants.{Root};
 ghost use Rattle.model.specs.Kinds.{child_sorts};
-ghost use Rattle.script.specs.Runs.{to_come};
+ghost use Rattle.script.specs.Runs.{Taken};
 
 use model::kinds::{Children, Kind, Sort};
+use std::marker::Model;
 
 // As many nodes of a sort, one after another.
 #[derive(Clone, Copy)]
@@ -12,67 +14,90 @@ pub struct Run {
     pub left: u32,
 }
 
-// The height without the runs on top that are used up.
-pub fn settle(runs: &[Run], top: usize) -> usize
-    requires { top ≤ length runs.now }
-    ensures same { to_come runs.now result ≡ to_come runs.now top }
-    ensures within { result ≤ top }
-    ensures some { 0 < result → 0 < (slice_index_or runs.now (result - 1) (record { sort = Sort.Root; left = 0 })).left }
-{
-    let mut at = top;
-    while at > 0 && runs[at - 1].left == 0 {
-        at -= 1;
+// Room for three runs of each node of a program, with some to spare.
+const MOST_RUNS: usize = 3080;
+
+#[derive(Drop)]
+pub struct Pending {
+    runs: [Run; MOST_RUNS],
+    height: usize,
+}
+
+impl Model for Pending {
+    ghost use Rattle.std.specs.Prelude.{◌≤◌};
+    ghost use Rattle.script.specs.Runs.{Coming, to_come};
+
+    ghost Value = { Coming };
+
+    ghost view = { λ p. record { sorts = to_come p.runs p.height; height = p.height } };
+
+    ghost invariant = { λ p. p.height ≤ 3080 };
+}
+
+impl Pending {
+    // A root, and nothing else yet.
+    pub fn new() -> Pending
+        ensures sorts { result.sorts ≡ Root ∷ [] }
+        ensures height { result.height ≡ 1 }
+    {
+        let root = Run {
+            sort: Sort::Root,
+            left: 1,
+        };
+        Pending {
+            runs: [root; MOST_RUNS],
+            height: 1,
+        }
     }
-    at
-}
 
-// Takes the first sort that is still to come.
-pub fn take_sort(runs: &mut [Run], top: usize) -> Sort
-    requires some { 0 < top }
-    requires within { top ≤ length runs.old }
-    requires left { 0 < (slice_index_or runs.old (top - 1) (record { sort = Sort.Root; left = 0 })).left }
-    ensures { to_come runs.old top ≡ result ∷ to_come runs.new top }
-{
-    let run = runs[top - 1];
-    runs[top - 1] = Run {
-        sort: run.sort,
-        left: run.left - 1,
-    };
-    run.sort
-}
-
-fn push(runs: &mut [Run], top: usize, sort: Sort, left: u32) -> usize
-    requires { top < length runs.old }
-    ensures end { result ≡ top + 1 }
-    ensures after { to_come runs.new result ≡ replicate left sort ++ to_come runs.old top }
-{
-    runs[top] = Run { sort, left };
-    top + 1
-}
-
-// Puts a list of sorts on top, the last first.
-fn push_all(runs: &mut [Run], top: usize, sorts: &[Sort]) -> usize
-    requires { top + length sorts.now ≤ length runs.old }
-    ensures end { result ≡ top + length sorts.now }
-    ensures after { to_come runs.new result ≡ sorts.now ++ to_come runs.old top }
-{
-    let mut height = top;
-    let mut left = sorts.len();
-    while left > 0 {
-        left -= 1;
-        height = push(runs, height, sorts[left], 1);
+    // Takes the first sort that is still to come.
+    pub fn take(&mut self) -> Option<Sort>
+        ensures sorts { Taken self.old.sorts result self.new.sorts }
+        ensures height { self.new.height ≤ self.old.height }
+    {
+        while let Some(last) = self.height.checked_sub(1) {
+            let run = &mut self.runs[last];
+            if run.left > 0 {
+                run.left -= 1;
+                return Some(run.sort);
+            }
+            self.height = last;
+        }
+        None
     }
-    height
-}
 
-// Puts the children of a node on top.
-pub fn push_children(runs: &mut [Run], top: usize, kind: Kind, number: u32) -> usize
-    requires { top + 3 ≤ length runs.old }
-    ensures end { result ≤ top + 3 }
-    ensures after { to_come runs.new result ≡ child_sorts kind number ++ to_come runs.old top }
-{
-    match kind.row().children {
-        Children::AsMany(sort) => push(runs, top, sort, number),
-        Children::Exactly(sorts) => push_all(runs, top, sorts),
+    fn push(&mut self, run: Run)
+        requires { self.old.height < 3080 }
+        ensures sorts { self.new.sorts ≡ replicate run.left run.sort ++ self.old.sorts }
+        ensures height { self.new.height ≡ self.old.height + 1 }
+    {
+        self.runs[self.height] = run;
+        self.height += 1;
+    }
+
+    // Puts a list of sorts on top, the last first.
+    fn push_all(&mut self, sorts: &[Sort])
+        requires { self.old.height + length sorts.now ≤ 3080 }
+        ensures sorts { self.new.sorts ≡ sorts.now ++ self.old.sorts }
+        ensures height { self.new.height ≡ self.old.height + length sorts.now }
+    {
+        for sort in sorts.iter().rev() {
+            self.push(Run {
+                sort: *sort,
+                left: 1,
+            });
+        }
+    }
+
+    // Puts the children of a node on top.
+    pub fn push_children(&mut self, kind: Kind, number: u32)
+        requires { self.old.height + 3 ≤ 3080 }
+        ensures sorts { self.new.sorts ≡ child_sorts kind number ++ self.old.sorts }
+        ensures height { self.new.height ≤ self.old.height + 3 }
+    {
+        match kind.row().children {
+            Children::AsMany(sort) => self.push(Run { sort, left: number }),
+            Children::Exactly(sorts) => self.push_all(sorts),
+        }
     }
 }

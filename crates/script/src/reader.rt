@@ -1,19 +1,19 @@
 // Reads a text, script or draft, into a lent row of entries.
-ghost use Rattle.std.specs.Prelude.{◌≡◌, ◌+◌, ◌<◌, ◌≤◌, [], ◌∷◌, length, IfOk, None};
+ghost use Rattle.std.specs.Prelude.{◌≡◌, ◌≤◌, [], ◌∷◌, length, IfOk, None};
 ghost use Rattle.model.specs.declared.kinds.Sort.TheVariants.{Root};
 ghost use Rattle.model.specs.Fields.{plain, draft};
-ghost use Rattle.model.specs.Reading.{heading as headed, lines, read_into, counted, row_after};
+ghost use Rattle.model.specs.Reading.{lines, read_into, counted, row_after};
 ghost use Rattle.laws.specs.RoundTrips.{DraftWrittenIsRead};
 ghost use Rattle.script.specs.Forms.{form_of};
-ghost use Rattle.script.specs.Reads.{IsLineAt, Returned, Filled, rest_read};
+ghost use Rattle.script.specs.Reads.{IsFirstLine, Returned, Filled, rest_read};
 ghost use Rattle.script.specs.Trips.{ReadBack, DraftBack};
 
-use crate::fields::find;
+use crate::fields::place_of;
 use crate::lines::{Form, read_line};
-use crate::pending::{Run, push_children, settle, take_sort};
+use crate::pending::Pending;
 use model::faults::{ReadFault, TextFault};
 use model::grammar::{Grammar, is_allowed};
-use model::kinds::{Kind, Sort};
+use model::kinds::Kind;
 use model::nodes::{Entry, clear_row};
 
 // As many nodes as a program has at most, and places as a row has at least.
@@ -22,37 +22,23 @@ pub const MOST_NODES: usize = 1024;
 // As many bytes as a text has at most.
 pub const LONGEST_TEXT: usize = 32768;
 
-// The entry of a line, and where the next line begins.
+// The first line of a text, and what comes after it.
 #[derive(Clone, Copy)]
-struct LineAt {
+struct FirstLine<'a> {
     entry: Entry,
-    next: usize,
+    rest: &'a [u8],
 }
 
-// The line from a place on.
-fn line_at(form: Form, text: &[u8], from: usize) -> Option<LineAt>
-    requires { from < length text.now }
-    ensures { IsLineAt (form_of form) text.now from result }
+// The entry of the first line, if a line end follows.
+fn first_line<'a>(form: Form, text: &'a [u8]) -> Option<FirstLine<'a>>
+    ensures { IsFirstLine (form_of form) text.now result }
 {
-    let end = find(text, from, b'\n');
-    if end == text.len() {
-        return None;
-    }
-    let entry = read_line(form, &text[from..end])?;
-    Some(LineAt {
+    let end = place_of(text, b'\n')?;
+    let entry = read_line(form, &text[..end])?;
+    Some(FirstLine {
         entry,
-        next: end + 1,
+        rest: &text[end + 1..],
     })
-}
-
-// The root's kind, from the first line on.
-fn heading(root: Option<Kind>, kind: Kind) -> Kind
-    ensures { result ≡ headed root kind }
-{
-    match root {
-        None => kind,
-        Some(first) => first,
-    }
 }
 
 // The lines of a text that is short enough.
@@ -60,43 +46,31 @@ fn read_lines<G: Grammar>(form: Form, text: &[u8], row: &mut [Entry]) -> Result<
     requires { 1024 ≤ length row.old }
     ensures { Returned (rest_read G.Grammar.grammar (form_of form) None (Root ∷ []) 0 (lines text.now)) result row.old row.new }
 {
-    // a node brings at most three runs, and takes from one
-    let mut runs = [Run {
-        sort: Sort::Root,
-        left: 1,
-    }; 3080];
-    let mut top = 1;
+    let mut pending = Pending::new();
+    let mut rest = text;
     let mut count = 0;
-    let mut from = 0;
     let mut root: Option<Kind> = None;
-    while from < text.len() {
-        let height = settle(&runs, top);
-        if height == 0 {
-            return Err(ReadFault::AfterEnd(count));
-        }
+    while !rest.is_empty() {
+        let sort = pending.take().ok_or(ReadFault::AfterEnd(count))?;
         if count == MOST_NODES {
             return Err(ReadFault::TooManyNodes);
         }
-        let Some(line) = line_at(form, text, from) else {
-            return Err(ReadFault::WrongLine(count));
-        };
+        let line = first_line(form, rest).ok_or(ReadFault::WrongLine(count))?;
         let node = line.entry.node;
-        let head = heading(root, node.kind);
-        let sort = take_sort(&mut runs, height);
+        let head = root.unwrap_or(node.kind);
         if !is_allowed::<G>(head, sort, node.kind) {
             return Err(ReadFault::Misplaced(count));
         }
-        top = push_children(&mut runs, height, node.kind, node.number);
+        pending.push_children(node.kind, node.number);
         row[count] = line.entry;
         count += 1;
-        from = line.next;
+        rest = line.rest;
         root = Some(head);
     }
-    let height = settle(&runs, top);
-    if height == 0 {
-        return Ok(count);
+    match pending.take() {
+        None => Ok(count),
+        Some(_) => Err(ReadFault::EndsEarly(count)),
     }
-    Err(ReadFault::EndsEarly(count))
 }
 
 // The text into a row that is long enough.
@@ -118,13 +92,11 @@ fn read_form<G: Grammar>(form: Form, text: &[u8], row: &mut [Entry]) -> Result<u
     ensures value { result ≡ counted (read_into G.Grammar.grammar (form_of form) text.now (length row.old)) }
     ensures after { row.new ≡ row_after (read_into G.Grammar.grammar (form_of form) text.now (length row.old)) row.old }
 {
-    match fill_row::<G>(form, text, row) {
-        Ok(count) => Ok(count),
-        Err(fault) => {
-            clear_row(row);
-            Err(fault)
-        }
+    let filled = fill_row::<G>(form, text, row);
+    if filled.is_err() {
+        clear_row(row);
     }
+    filled
 }
 
 // Reads a script: how many entries stand at the front of the row, or why it is refused.

@@ -1,141 +1,112 @@
 // Writes a program as text into a lent buffer.
-ghost use Rattle.std.specs.Prelude.{◌≡◌, ◌+◌, ◌≤◌, length, take, IfOk};
+ghost use Rattle.std.specs.Prelude.{◌≡◌, ◌≤◌, length, decimal, IfOk};
 ghost use Rattle.model.specs.Names.{letters, nodes};
 ghost use Rattle.model.specs.Fields.{plain, write_mark, write_name};
 ghost use Rattle.model.specs.Writing.{write_line, write_lines, write_into, measured, buffer_after};
-ghost use Rattle.script.specs.Buffers.{pasted, name_text, number_text};
+ghost use Rattle.script.specs.Buffers.{name_text, number_text};
 ghost use Rattle.script.specs.Trips.{WriteBack};
 
-use crate::buffers::{number_length, put_byte, put_bytes, put_number};
+use crate::fields::place_of;
 use crate::reader::MOST_NODES;
+use crate::sink::{Counter, Page, Sink};
 use model::faults::{ReadFault, TextFault};
 use model::kinds::Role;
 use model::nodes::{Entry, Name};
 
-// How many characters a stem has before its zeros.
-fn stem_length(stem: &[u8]) -> usize
-    ensures is { letters stem.now ≡ take result stem.now }
-    ensures within { result ≤ length stem.now }
+// The characters of a stem, which stand before its zeros.
+fn characters(stem: &[u8]) -> &[u8]
+    ensures are { result.now ≡ letters stem.now }
+    ensures within { length result.now ≤ length stem.now }
 {
-    let mut at = 0;
-    while at < stem.len() && stem[at] != 0 {
-        at += 1;
+    match place_of(stem, 0) {
+        Some(end) => &stem[..end],
+        None => stem,
     }
-    at
 }
 
-fn mark_length(mark: u16) -> usize
-    ensures is { result ≡ length (write_mark mark) }
-    ensures small { result ≤ 11 }
+fn put_number<S: Sink>(out: &mut S, n: u32)
+    requires { S.room out.old (length (decimal n)) }
+    ensures put { S.grown out.old (decimal n) out.new }
+    ensures short { length (decimal n) ≤ 10 }
 {
-    if mark == 0 {
-        0
-    } else {
-        number_length(mark as u32) + 1
+    if n < 10 {
+        out.put(&[b'0' + n as u8]);
+        return;
     }
+    put_number(out, n / 10);
+    out.put(&[b'0' + (n % 10) as u8]);
 }
 
 // An apostrophe and the mark, unless it is 0.
-fn put_mark(out: &mut [u8], from: usize, mark: u16) -> usize
-    requires { from + length (write_mark mark) ≤ length out.old }
-    ensures end { result ≡ from + length (write_mark mark) }
-    ensures after { out.new ≡ pasted out.old from (write_mark mark) }
+fn put_mark<S: Sink>(out: &mut S, mark: u16)
+    requires { S.room out.old (length (write_mark mark)) }
+    ensures put { S.grown out.old (write_mark mark) out.new }
+    ensures short { length (write_mark mark) ≤ 11 }
 {
     if mark == 0 {
-        return from;
+        return;
     }
-    let at = put_byte(out, from, b'\'');
-    put_number(out, at, mark as u32)
+    out.put(b"'");
+    put_number(out, u32::from(mark));
 }
 
-fn name_length(name: &Name) -> usize
-    ensures is { result ≡ length (write_name name.now) }
-    ensures small { result ≤ 19 }
+fn put_name<S: Sink>(out: &mut S, name: &Name)
+    requires { S.room out.old (length (write_name name.now)) }
+    ensures put { S.grown out.old (write_name name.now) out.new }
+    ensures short { length (write_name name.now) ≤ 19 }
 {
-    stem_length(&name.stem) + mark_length(name.mark)
-}
-
-fn put_name(out: &mut [u8], from: usize, name: &Name) -> usize
-    requires { from + length (write_name name.now) ≤ length out.old }
-    ensures end { result ≡ from + length (write_name name.now) }
-    ensures after { out.new ≡ pasted out.old from (write_name name.now) }
-{
-    let letters = stem_length(&name.stem);
-    let at = put_bytes(out, from, &name.stem[..letters]);
-    put_mark(out, at, name.mark)
-}
-
-fn name_field_length(role: Role, name: &Name) -> usize
-    ensures is { result ≡ length (name_text role name.now) }
-    ensures small { result ≤ 20 }
-{
-    if role.has_name() {
-        name_length(name) + 1
-    } else {
-        0
-    }
+    out.put(characters(&name.stem));
+    put_mark(out, name.mark);
 }
 
 // A tab and the name, where the kind has one.
-fn put_name_field(out: &mut [u8], from: usize, role: Role, name: &Name) -> usize
-    requires { from + length (name_text role name.now) ≤ length out.old }
-    ensures end { result ≡ from + length (name_text role name.now) }
-    ensures after { out.new ≡ pasted out.old from (name_text role name.now) }
+fn put_name_field<S: Sink>(out: &mut S, role: Role, name: &Name)
+    requires { S.room out.old (length (name_text role name.now)) }
+    ensures put { S.grown out.old (name_text role name.now) out.new }
+    ensures short { length (name_text role name.now) ≤ 20 }
 {
     if !role.has_name() {
-        return from;
+        return;
     }
-    let at = put_byte(out, from, b'\t');
-    put_name(out, at, name)
-}
-
-fn number_field_length(most: Option<u32>, n: u32) -> usize
-    ensures is { result ≡ length (number_text most n) }
-    ensures small { result ≤ 11 }
-{
-    match most {
-        None => 0,
-        Some(_) => number_length(n) + 1,
-    }
+    out.put(b"\t");
+    put_name(out, name);
 }
 
 // A tab and the number, where the kind has one.
-fn put_number_field(out: &mut [u8], from: usize, most: Option<u32>, n: u32) -> usize
-    requires { from + length (number_text most n) ≤ length out.old }
-    ensures end { result ≡ from + length (number_text most n) }
-    ensures after { out.new ≡ pasted out.old from (number_text most n) }
+fn put_number_field<S: Sink>(out: &mut S, most: Option<u32>, n: u32)
+    requires { S.room out.old (length (number_text most n)) }
+    ensures put { S.grown out.old (number_text most n) out.new }
+    ensures short { length (number_text most n) ≤ 11 }
 {
     match most {
-        None => from,
+        None => (),
         Some(_) => {
-            let at = put_byte(out, from, b'\t');
-            put_number(out, at, n)
+            out.put(b"\t");
+            put_number(out, n);
         }
     }
+}
+
+// One line.
+fn put_line<S: Sink>(out: &mut S, entry: &Entry)
+    requires { S.room out.old (length (write_line plain entry.now)) }
+    ensures put { S.grown out.old (write_line plain entry.now) out.new }
+    ensures short { length (write_line plain entry.now) ≤ 64 }
+{
+    let row = entry.node.kind.row();
+    out.put(row.word.as_bytes());
+    put_name_field(out, row.role, &entry.node.name);
+    put_number_field(out, row.most, entry.node.number);
+    out.put(b"\n");
 }
 
 fn line_length(entry: &Entry) -> usize
     ensures is { result ≡ length (write_line plain entry.now) }
     ensures small { result ≤ 64 }
 {
-    let kind_row = entry.node.kind.row();
-    kind_row.word.len()
-        + name_field_length(kind_row.role, &entry.node.name)
-        + number_field_length(kind_row.most, entry.node.number)
-        + 1
-}
-
-// One line.
-fn put_line(out: &mut [u8], from: usize, entry: &Entry) -> usize
-    requires { from + length (write_line plain entry.now) ≤ length out.old }
-    ensures end { result ≡ from + length (write_line plain entry.now) }
-    ensures after { out.new ≡ pasted out.old from (write_line plain entry.now) }
-{
-    let kind_row = entry.node.kind.row();
-    let after_word = put_bytes(out, from, kind_row.word.as_bytes());
-    let after_name = put_name_field(out, after_word, kind_row.role, &entry.node.name);
-    let after_number = put_number_field(out, after_name, kind_row.most, entry.node.number);
-    put_byte(out, after_number, b'\n')
+    let mut counter = Counter { length: 0 };
+    put_line(&mut counter, entry);
+    counter.length
 }
 
 // How long the text is.
@@ -151,16 +122,13 @@ fn text_length(entries: &[Entry]) -> usize
 }
 
 // All lines.
-fn put_lines(out: &mut [u8], entries: &[Entry]) -> usize
-    requires { length (write_lines plain entries.now) ≤ length out.old }
-    ensures end { result ≡ length (write_lines plain entries.now) }
-    ensures after { out.new ≡ pasted out.old 0 (write_lines plain entries.now) }
+fn put_lines<S: Sink>(out: &mut S, entries: &[Entry])
+    requires { S.room out.old (length (write_lines plain entries.now)) }
+    ensures { S.grown out.old (write_lines plain entries.now) out.new }
 {
-    let mut at = 0;
     for entry in entries {
-        at = put_line(out, at, entry);
+        put_line(out, entry);
     }
-    at
 }
 
 // Writes the text of a program into the buffer, and says how long it is; origins are not written.
@@ -178,5 +146,10 @@ pub fn write(program: &[Entry], buffer: &mut [u8]) -> Result<usize, TextFault>
     if needed > buffer.len() {
         return Err(TextFault::TooShort(needed));
     }
-    Ok(put_lines(buffer, program))
+    let mut page = Page {
+        bytes: buffer,
+        end: 0,
+    };
+    put_lines(&mut page, program);
+    Ok(needed)
 }

@@ -1,38 +1,63 @@
-use Rattle.std.proofs.Common.{[], ◌∷◌, sym, ap, ◌∙◌, arith}
-use Rattle.script.specs.Buffers.{pasted, name_text, number_text}
-use Rattle.script.proofs.LineTexts.{length_line, line_parts, four_puts}
+use Rattle.std.proofs.Common.{◌≡◌, List, ℕ, [], ◌∷◌, ◌++◌, ap, sym, refl, ◌∙◌}
+use Rattle.model.specs.declared.kinds.KindRow.{KindRow}
+use Rattle.model.specs.declared.nodes.Entry.{Entry}
+use Rattle.model.specs.Fields.{plain}
+use Rattle.model.specs.Writing.{write_line}
+use Rattle.model.specs.Table.{shown, row_of}
+use Rattle.script.specs.Buffers.{name_text, number_text}
+use Rattle.script.proofs.LineTexts.{line_parts}
+use Rattle.script.proofs.Sinks.{first_room, next_room, both_put}
 use Rattle.script.proofs.writer.put_line.Goals as goal
 
-pub put_bytes-after_word-requires : goal.put_bytes-after_word-requires
-put_bytes-after_word-requires c = omega (arith, c.requires, length_line c.row-kind_row.result.now c.args.entry.now c.row-kind_row.ensures)
+-- what comes after the word, and after the name
+after_name : KindRow → Entry → List ℕ
+after_name x e = number_text x.most e.node.number ++ (10 ∷ [])
 
-pub put_name_field-after_name-requires : goal.put_name_field-after_name-requires
-put_name_field-after_name-requires c =
-    omega (arith, c.requires, length_line c.row-kind_row.result.now c.args.entry.now c.row-kind_row.ensures, c.put_bytes-after_word.ensures.end, c.put_bytes-after_word.auto.out)
+after_word : KindRow → Entry → List ℕ
+after_word x e = name_text x.role e.node.name ++ after_name x e
 
-pub put_number_field-after_number-requires : goal.put_number_field-after_number-requires
-put_number_field-after_number-requires c =
-    omega (arith, c.requires, length_line c.row-kind_row.result.now c.args.entry.now c.row-kind_row.ensures, c.put_bytes-after_word.ensures.end, c.put_bytes-after_word.auto.out, c.put_name_field-after_name.ensures.end, c.put_name_field-after_name.auto.out)
+starts_so : (x : KindRow) (e : Entry) (w : List ℕ) → shown x ≡ row_of e.node.kind → w ≡ x.word.now → write_line plain e ≡ w ++ after_word x e
+unfolding after_word after_name
+starts_so x e w s h = line_parts x e s ∙ ap (λ (l : List ℕ). l ++ after_word x e) (sym h)
 
-pub put_byte-requires : goal.put_byte-requires
-put_byte-requires c =
-    omega (arith, c.requires, length_line c.row-kind_row.result.now c.args.entry.now c.row-kind_row.ensures, c.put_bytes-after_word.ensures.end, c.put_bytes-after_word.auto.out, c.put_name_field-after_name.ensures.end, c.put_name_field-after_name.auto.out, c.put_number_field-after_number.ensures.end, c.put_number_field-after_number.auto.out)
+word_then : (x : KindRow) (e : Entry) → after_word x e ≡ name_text x.role e.node.name ++ after_name x e
+unfolding after_word
+word_then x e = refl
 
-pub returns : goal.returns
-returns c =
+name_then : (x : KindRow) (e : Entry) → after_name x e ≡ number_text x.most e.node.number ++ (10 ∷ [])
+unfolding after_name
+name_then x e = refl
+
+pub put_name_field-requires : goal.put_name_field-requires
+put_name_field-requires g c =
+    let x = c.row-row.result.now in
     let e = c.args.entry.now in
-    let x = c.row-kind_row.result.now in
-    let d = c.args.out.now in
-    let l = length_line x e c.row-kind_row.ensures in
-    record {
-      end = omega (arith, l, c.put_bytes-after_word.ensures.end, c.put_name_field-after_name.ensures.end, c.put_number_field-after_number.ensures.end, c.put_byte.ensures.end);
-      after = four_puts d c.put_bytes-after_word.new.out c.put_name_field-after_name.new.out c.put_number_field-after_number.new.out c.put_byte.new.out c.args.from
-          c.put_bytes-after_word.result c.put_name_field-after_name.result c.put_number_field-after_number.result
-          x.word.now (name_text x.role e.node.name) (number_text x.most e.node.number) (10 ∷ [])
-          (omega (arith, l, c.requires))
-          c.put_bytes-after_word.ensures.after c.put_bytes-after_word.ensures.end
-          c.put_name_field-after_name.ensures.after c.put_name_field-after_name.ensures.end
-          c.put_number_field-after_number.ensures.after c.put_number_field-after_number.ensures.end
-          c.put_byte.ensures.after
-          ∙ ap (pasted d c.args.from) (sym (line_parts x e c.row-kind_row.ensures));
-    }
+    let r = next_room g.S.Sink.laws _ _ _ _ (starts_so x e _ c.row-row.ensures c.as_bytes.ensures.value) c.requires _ c.put.ensures in
+    first_room g.S.Sink.laws _ _ (name_text x.role e.node.name) (after_name x e) (word_then x e) r
+
+pub put_number_field-requires : goal.put_number_field-requires
+put_number_field-requires g c =
+    let x = c.row-row.result.now in
+    let e = c.args.entry.now in
+    let r = next_room g.S.Sink.laws _ _ _ _ (starts_so x e _ c.row-row.ensures c.as_bytes.ensures.value) c.requires _ c.put.ensures in
+    let q = next_room g.S.Sink.laws _ _ _ _ (word_then x e) r _ c.put_name_field.ensures.put in
+    first_room g.S.Sink.laws _ _ _ _ (name_then x e) q
+
+pub put-requires-2 : goal.put-requires-2
+put-requires-2 g c =
+    let x = c.row-row.result.now in
+    let e = c.args.entry.now in
+    let r = next_room g.S.Sink.laws _ _ _ _ (starts_so x e _ c.row-row.ensures c.as_bytes.ensures.value) c.requires _ c.put.ensures in
+    let q = next_room g.S.Sink.laws _ _ _ _ (word_then x e) r _ c.put_name_field.ensures.put in
+    next_room g.S.Sink.laws _ _ _ _ (name_then x e) q _ c.put_number_field.ensures.put
+
+pub returns-clause-put : goal.returns-clause-put
+returns-clause-put g c =
+    let x = c.row-row.result.now in
+    let e = c.args.entry.now in
+    let s = starts_so x e _ c.row-row.ensures c.as_bytes.ensures.value in
+    let r = next_room g.S.Sink.laws _ _ _ _ s c.requires _ c.put.ensures in
+    let q = next_room g.S.Sink.laws _ _ _ _ (word_then x e) r _ c.put_name_field.ensures.put in
+    let third = both_put g.S.Sink.laws _ _ _ _ (name_then x e) q _ _ c.put_number_field.ensures.put c.put-2.ensures in
+    let second = both_put g.S.Sink.laws _ _ _ _ (word_then x e) r _ _ c.put_name_field.ensures.put third in
+    both_put g.S.Sink.laws _ _ _ _ s c.requires _ _ c.put.ensures second

@@ -1,4 +1,4 @@
-use Rattle.std.proofs.Common.{ℕ, List, length, Ok, Result, sym, ap, ◌∙◌, arith}
+use Rattle.std.proofs.Common.{ℕ, List, length, Ok, Result, sym, ap, ◌∙◌, rules, arith}
 use Rattle.model.specs.declared.faults.TextFault.{TextFault}
 use Rattle.model.specs.Writing.{measured, buffer_after}
 use Rattle.script.proofs.Writes.{write_many, write_short, write_fits, front_pasted, written_back}
@@ -14,13 +14,19 @@ returns-then-needed-buffer c =
     let e = sym (write_short c.args.program.now (length c.args.buffer.now) c.text_length-needed.result c.if-program-gt-MOST_NODES.false c.text_length-needed.ensures c.if-needed-buffer.true) in
     record { value = ap measured e; after = ap (λ (w : Result (List ℕ) TextFault). buffer_after w c.args.buffer.now) e; back = tt; within = tt }
 
-pub returns : goal.returns
-returns c =
+pub returns-clause-value : goal.returns-clause-value
+returns-clause-value c =
+    let e = sym (write_fits c.args.program.now (length c.args.buffer.now) c.if-program-gt-MOST_NODES.false (omega (arith, c.text_length-needed.ensures, c.if-needed-buffer.false))) in
+    ap {B = Result ℕ TextFault} Ok c.text_length-needed.ensures ∙ ap measured e
+
+pub returns-clause-after : goal.returns-clause-after
+returns-clause-after c =
     let d = c.args.buffer.now in
     let e = sym (write_fits c.args.program.now (length d) c.if-program-gt-MOST_NODES.false (omega (arith, c.text_length-needed.ensures, c.if-needed-buffer.false))) in
-    record {
-      value = ap {B = Result ℕ TextFault} Ok c.put_lines.ensures.end ∙ ap measured e;
-      after = c.put_lines.ensures.after ∙ (front_pasted _ d ∙ ap (λ (w : Result (List ℕ) TextFault). buffer_after w d) e);
-      back = written_back c.args.program.now d c.put_lines.new.out c.put_lines.result c.put_lines.ensures.end c.put_lines.ensures.after;
-      within = omega (arith, c.put_lines.ensures.end, c.put_lines.auto.out, c.text_length-needed.ensures, c.if-needed-buffer.false);
-    }
+    let same = sym c.put_lines.ensures.same in
+    (search rules) ∙ (c.put_lines.ensures.bytes ∙ (front_pasted _ d ∙ ap (λ (w : Result (List ℕ) TextFault). buffer_after w d) e))
+
+pub returns-clause-back : goal.returns-clause-back
+returns-clause-back c =
+    let same = sym c.put_lines.ensures.same in
+    written_back c.args.program.now c.args.buffer.now _ c.text_length-needed.result c.text_length-needed.ensures ((search rules) ∙ c.put_lines.ensures.bytes)
