@@ -79,10 +79,9 @@ take_past (suc k) (x ∷ s) t h =
     let e : k - length s ≡ suc k - suc (length s) = omega arith in
     ap (λ (l : List ℕ). x ∷ l) (take_past k s t (omega arith) ∙ ap (λ (j : ℕ). s ++ take j t) e)
 
-pub pad_is : (s : List ℕ) → length s ≤ 8 → pasted (replicate 8 0) 0 s ≡ padded s
+pub pad_is : (s : List ℕ) → length s ≤ 8 → s ++ drop (length s) (replicate 8 0) ≡ padded s
 pad_is s h =
-    let e : 0 + length s ≡ length s = omega arith in
-    ap (λ (l : List ℕ). s ++ l) (ap (λ (j : ℕ). drop j (replicate 8 0)) e ∙ (drop-replicate (length s) 8 0 ∙ sym (take-replicate (8 - length s) 8 0 (omega arith))))
+    ap (λ (l : List ℕ). s ++ l) (drop-replicate (length s) 8 0 ∙ sym (take-replicate (8 - length s) 8 0 (omega arith)))
     ∙ sym (take_past 8 s (replicate 8 0) h)
 
 -- The pieces at the first separator
@@ -110,6 +109,9 @@ pieces_first s (b ∷ bs) h = go (eqb b s) refl (pieces_first s bs) h
         let n : before s bs + 1 ≡ suc (before s bs) = omega arith in
         let m : suc (before s bs) + 1 ≡ suc (before s bs + 1) = omega arith in
         ap (joins s b) (ih (omega arith)) ∙ (cond-false (eqb b s) _ _ e ∙ (ap (λ (j : ℕ). (b ∷ take (before s bs) bs) ∷ pieces s (drop j (b ∷ bs))) (sym m) ∙ ap (split (b ∷ bs)) (sym (cond-false (eqb b s) 0 (suc (before s bs)) e))))
+
+pub pieces_cut : (s : ℕ) (f : List ℕ) (q : ℕ) → q ≡ before s f → q < length f → pieces s f ≡ take q f ∷ pieces s (drop (q + 1) f)
+pieces_cut s f q e h = pieces_first s f (omega arith) ∙ ap (λ (j : ℕ). take j f ∷ pieces s (drop (j + 1) f)) (sym e)
 
 -- Names
 
@@ -139,7 +141,7 @@ name_whole f h = ap of_pieces (pieces_all 39 f h)
 
 name_cut : (f : List ℕ) (q : ℕ) → q ≡ before 39 f → q < length f → name_field f ≡ if_some (written_mark (drop (q + 1) f)) (named (take q f))
 name_cut f q e h =
-    ap of_pieces (pieces_first 39 f (omega arith) ∙ ap (λ (j : ℕ). take j f ∷ pieces 39 (drop (j + 1) f)) (sym e)) ∙ quoted (take q f) (drop (q + 1) f)
+    ap of_pieces (pieces_cut 39 f q e h) ∙ quoted (take q f) (drop (q + 1) f)
 
 abbrev make : ℕ → List ℕ → Option Name
 make m p = Some (record { stem = p; mark = m })
@@ -158,30 +160,22 @@ none_named : (s : List ℕ) → stem_of s ≡ None → (o : Option ℕ) → if_s
 none_named s e None = refl
 none_named s e (Some m) = named_at s m None e
 
-marked : (f : List ℕ) (q : ℕ) (o : Option ℕ) → number_field 65535 (drop (q + 1) f) ≡ o → if_some (written_mark (drop (q + 1) f)) (named (take q f)) ≡ if_some (if_some o (λ m. cond (eqb m 0) None (Some m))) (named (take q f))
-marked f q o e = ap (λ (x : Option ℕ). if_some (if_some x (λ m. cond (eqb m 0) None (Some m))) (named (take q f))) e
+-- a name without a mark, and one that is cut at the apostrophe
+pub name_plain : (f : List ℕ) (o : Option (List ℕ)) → before 39 f ≡ length f → stem_of f ≡ o → name_field f ≡ if_some o (make 0)
+name_plain f o h e = name_whole f h ∙ named_at f 0 o e
 
-pub name_no_stem : (f : List ℕ) (q : ℕ) → q ≡ before 39 f → q ≤ length f → stem_of (take q f) ≡ None → name_field f ≡ None
-name_no_stem f q e l s =
-    ⊎_elim
-    (λ h. name_cut f q e h ∙ none_named (take q f) s (written_mark (drop (q + 1) f)))
-    (λ h. name_whole f (omega arith) ∙ named_at f 0 None (ap stem_of (sym (take_all q f h)) ∙ s))
-    (cases_lt q (length f))
+module _ (f : List ℕ) (q : ℕ) (is : q ≡ before 39 f) (here : q < length f) where
+  pub name_no_stem : stem_of (take q f) ≡ None → name_field f ≡ None
+  name_no_stem s = name_cut f q is here ∙ none_named (take q f) s (written_mark (drop (q + 1) f))
 
-pub name_plain : (f : List ℕ) (q : ℕ) (p : List ℕ) → q ≡ before 39 f → q ≡ length f → stem_of (take q f) ≡ Some p → name_field f ≡ Some (record { stem = p; mark = 0 })
-name_plain f q p e h s = name_whole f (omega arith) ∙ named_at f 0 (Some p) (ap stem_of (sym (take_all q f (omega arith))) ∙ s)
-
-pub name_no_mark : (f : List ℕ) (q : ℕ) → q ≡ before 39 f → q < length f → number_field 65535 (drop (q + 1) f) ≡ None → name_field f ≡ None
-name_no_mark f q e h n = name_cut f q e h ∙ marked f q None n
-
-pub name_zero : (f : List ℕ) (q m : ℕ) → q ≡ before 39 f → q < length f → number_field 65535 (drop (q + 1) f) ≡ Some m → m ≡ 0 → name_field f ≡ None
-name_zero f q m e h n z =
-    name_cut f q e h ∙ (marked f q (Some m) n ∙ ap (λ (o : Option ℕ). if_some o (named (take q f))) (cond-true (eqb m 0) _ _ (eq-eqb m 0 z)))
-
-pub name_marked : (f : List ℕ) (q m : ℕ) (p : List ℕ) → q ≡ before 39 f → q < length f → stem_of (take q f) ≡ Some p → number_field 65535 (drop (q + 1) f) ≡ Some m → (m ≡ 0 → ⊥) → name_field f ≡ Some (record { stem = p; mark = m })
-name_marked f q m p e h s n z =
-    name_cut f q e h
-    ∙ (marked f q (Some m) n ∙ (ap (λ (o : Option ℕ). if_some o (named (take q f))) (cond-false (eqb m 0) _ _ (ne_eqb m 0 z)) ∙ named_at (take q f) m (Some p) s))
+  pub name_marked : (p : List ℕ) (o : Option ℕ) → stem_of (take q f) ≡ Some p → written_mark (drop (q + 1) f) ≡ o → name_field f ≡ if_some o (λ m. Some (record { stem = p; mark = m }))
+  name_marked p o s e =
+      name_cut f q is here
+      ∙ (ap (λ (x : Option ℕ). if_some x (named (take q f))) e ∙ each o)
+    where
+      each : (x : Option ℕ) → if_some x (named (take q f)) ≡ if_some x (λ m. Some (record { stem = p; mark = m }))
+      each None = refl
+      each (Some m) = named_at (take q f) m (Some p) s
 
 -- Origins
 

@@ -78,6 +78,10 @@ entry_made form Refers most k fs = named_part form Refers most k fs
 
 -- The ways out of a line
 
+pub line_no_word : (form : Form) (bs : List ℕ) → pieces 9 bs ≡ [] → entry_of form bs ≡ None
+unfolding entry_of
+line_no_word form bs e = ap (of_fields form) e
+
 module _ (form : Form) (bs w : List ℕ) (fs : List (List ℕ)) (are : pieces 9 bs ≡ w ∷ fs) where
   line_at : (o : Option Kind) → kind_of w ≡ o → entry_of form bs ≡ if_some o (λ k. read_fields (wanted form k) fs (bare k))
   unfolding entry_of
@@ -116,9 +120,5 @@ module _ (form : Form) (bs w : List ℕ) (fs : List (List ℕ)) (are : pieces 9 
           pub line_done : is ≡ [] → entry_of form bs ≡ Some (made k a m o)
           line_done e = origin_got ∙ ap (ended k a m o) e
 
-          left_over : (gs : List (List ℕ)) → (gs ≡ [] → ⊥) → ended k a m o gs ≡ None
-          left_over [] h = absurd (h refl)
-          left_over (g ∷ gs) h = refl
-
-          pub line_over : (is ≡ [] → ⊥) → entry_of form bs ≡ None
-          line_over h = origin_got ∙ left_over is h
+          pub line_over : (f : List ℕ) (gs : List (List ℕ)) → is ≡ f ∷ gs → entry_of form bs ≡ None
+          line_over f gs e = origin_got ∙ ap (ended k a m o) e

@@ -1,6 +1,7 @@
 -- Reading line by line, as the rules do.
 use Rattle.std.proofs.Common.{◌≡◌, ℕ, suc, ◌+◌, ◌-◌, ◌<◌, ◌≤◌, Bool, true, false, eqb, ltb, List, [], ◌∷◌, ◌++◌, length, get_or, take, drop, set, Some, None, Ok, Err, Option, sym, refl, ap, ◌∙◌, subst, append_assoc, append-nil, arith, take-append-drop}
 use lib.Dec.{leb-suc-suc}
+use Rattle.std.specs.Option.{unwrap_or}
 use Rattle.std.proofs.lemmas.List.{drop_all, drop-drop, length-drop, take_more_set, length-take-le, drop-set-lt}
 use Rattle.std.proofs.lemmas.Bool.{cond-true, cond-false, lt-ltb, le-ltb, eq-eqb, ne_eqb}
 use Rattle.model.specs.declared.kinds.Kind.{Kind}
@@ -15,9 +16,6 @@ use Rattle.model.specs.Reading.{TextLine, begins, longer, lines, read_line, head
 use Rattle.script.specs.Cuts.{before}
 use Rattle.script.specs.LineReads.{entry_of}
 use Rattle.script.specs.Reads.{first_entry, rest_read, with_front, count_of, InRow, Returned}
-use Rattle.script.specs.declared.pending.Run.{Run}
-use Rattle.script.specs.Runs.{stacked, to_come}
-use Rattle.script.proofs.Stacks.{one_used}
 
 -- The first line
 
@@ -60,16 +58,15 @@ first_is : (form : Form) (bs : List ℕ) → read_line form (first_line bs) ≡ 
 unfolding first_entry entry_of
 first_is form bs = refl
 
-pub first_none : (form : Form) (text : List ℕ) (from e : ℕ) → e ≡ from + before 10 (drop from text) → e ≡ length text → first_entry form (drop from text) ≡ None
+pub first_none : (form : Form) (bs : List ℕ) → before 10 bs ≡ length bs → first_entry form bs ≡ None
 unfolding first_entry
-first_none form text from e h k = cond-false _ _ _ (le-ltb (before 10 (drop from text)) (length (drop from text)) (omega (arith, length-drop from text)))
+first_none form bs h = cond-false _ _ _ (le-ltb (before 10 bs) (length bs) (omega (arith, h)))
 
-pub first_some : (form : Form) (text : List ℕ) (from e : ℕ) (o : Option Entry) → e ≡ from + before 10 (drop from text) → e < length text → entry_of form (take (e - from) (drop from text)) ≡ o → first_entry form (drop from text) ≡ o
+pub first_some : (form : Form) (bs : List ℕ) (e : ℕ) (o : Option Entry) → e ≡ before 10 bs → e < length bs → entry_of form (take e bs) ≡ o → first_entry form bs ≡ o
 unfolding first_entry
-first_some form text from e o h k p =
-    let b : before 10 (drop from text) ≡ e - from = omega arith in
-    cond-true _ _ _ (lt-ltb (before 10 (drop from text)) (length (drop from text)) (omega (arith, length-drop from text)))
-    ∙ (ap (λ (j : ℕ). entry_of form (take j (drop from text))) b ∙ p)
+first_some form bs e o h l p =
+    cond-true _ _ _ (lt-ltb (before 10 bs) (length bs) (omega (arith, h, l)))
+    ∙ (ap (λ (j : ℕ). entry_of form (take j bs)) (sym h) ∙ p)
 
 -- One turn
 
@@ -151,7 +148,7 @@ unfolding with_front
 front_twice p q (Ok l) = ap Ok (sym (append_assoc p q l))
 front_twice p q (Err f) = refl
 
-pub front_start : (r : ReadOut) → r ≡ with_front [] r
+front_start : (r : ReadOut) → r ≡ with_front [] r
 unfolding with_front
 front_start (Ok l) = refl
 front_start (Err f) = refl
@@ -180,84 +177,64 @@ returned_ok w old row n h k e =
 
 -- Turns of the code's loop
 
-none_come : (runs : List Run) (h : ℕ) → h ≡ 0 → to_come runs h ≡ []
-unfolding stacked
-none_come runs h e = ap (to_come runs) e
+pub head_is : (o : Option Kind) (k : Kind) → unwrap_or o k ≡ heading o k
+head_is None k = refl
+head_is (Some r) k = refl
 
-pub record Comes (ts : List Sort) : Type 0 where
-  pub first : Sort
-  pub more : List Sort
-  pub are : ts ≡ first ∷ more
+-- before the first turn
+pub started : (g : Grammar) (form : Form) (ts : List Sort) (text : List ℕ) → ts ≡ Root ∷ [] → rest_read g form None (Root ∷ []) 0 (lines text) ≡ with_front [] (rest_read g form None ts 0 (lines text))
+started g form ts text e = front_start _ ∙ ap (λ (x : List Sort). with_front [] (rest_read g form None x 0 (lines text))) (sym e)
 
-pub comes : (runs : List Run) (h : ℕ) → 0 < h → h ≤ length runs → 0 < (get_or runs (h - 1) (record { sort = Root; left = 0 })).left → Comes (to_come runs h)
-comes runs h p l z =
-    let d : Run = record { sort = Root; left = 0 } in
-    let k = (get_or runs (h - 1) d).left - 1 in
-    record {
-      first = (get_or runs (h - 1) d).sort;
-      more = to_come (set runs (h - 1) (record { sort = (get_or runs (h - 1) d).sort; left = k })) h;
-      are = one_used runs h d k p l (omega arith);
-    }
+none_left : (bs : List ℕ) → length bs ≡ 0 → lines bs ≡ []
+none_left [] h = refl
+none_left (b ∷ bs) h = absurd (omega arith)
 
-text_left : (text : List ℕ) (from : ℕ) → from < length text → 0 < length (drop from text)
-text_left text from h = omega (arith, length-drop from text)
-
-text_done : (text : List ℕ) (from : ℕ) → length text ≤ from → lines (drop from text) ≡ []
-text_done text from h = ap lines (drop_all from text h)
-
--- the state of the loop: w is what the whole text reads as, `at` entries are read, and these sorts are still to come
-module _ (w : ReadOut) (g : Grammar) (form : Form) (root : Option Kind) (old row : List Entry) (ts : List Sort) (at from : ℕ) (text : List ℕ)
-    (reads : w ≡ with_front (take at row) (rest_read g form root ts at (lines (drop from text)))) where
-  refused : (us : List Sort) (f : ReadFault) → ts ≡ us → rest_read g form root us at (lines (drop from text)) ≡ Err f → Returned w (Err f) old row
+-- the state of the loop: w is what the whole text reads as, `at` entries are read, and these sorts and bytes are still to come
+module _ (w : ReadOut) (g : Grammar) (form : Form) (root : Option Kind) (old row : List Entry) (ts : List Sort) (at : ℕ) (bs : List ℕ)
+    (reads : w ≡ with_front (take at row) (rest_read g form root ts at (lines bs))) where
+  refused : (us : List Sort) (f : ReadFault) → ts ≡ us → rest_read g form root us at (lines bs) ≡ Err f → Returned w (Err f) old row
   refused us f t r =
       returned_err w f old row
-      (reads ∙ (ap (λ (x : List Sort). with_front (take at row) (rest_read g form root x at (lines (drop from text)))) t ∙ (ap (with_front (take at row)) r ∙ front_err (take at row) f)))
+      (reads ∙ (ap (λ (x : List Sort). with_front (take at row) (rest_read g form root x at (lines bs))) t ∙ (ap (with_front (take at row)) r ∙ front_err (take at row) f)))
 
-  pub after_end : (runs : List Run) (h : ℕ) → to_come runs h ≡ ts → h ≡ 0 → from < length text → Returned w (Err (AfterEnd at)) old row
-  after_end runs h e z l = refused [] (AfterEnd at) (sym e ∙ none_come runs h z) (read_after g form root Root [] at (drop from text) (text_left text from l))
+  pub after_end : ts ≡ [] → 0 < length bs → Returned w (Err (AfterEnd at)) old row
+  after_end e l = refused [] (AfterEnd at) e (read_after g form root Root [] at bs l)
 
-  pub ends_early : Comes ts → length text ≤ from → Returned w (Err (EndsEarly at)) old row
-  ends_early t l =
-      refused (t.first ∷ t.more) (EndsEarly at) t.are
-      (ap (rest_read g form root (t.first ∷ t.more) at) (text_done text from l) ∙ read_early g form root t.first t.more at)
+  pub ends_early : (s : Sort) (us : List Sort) → ts ≡ s ∷ us → length bs ≡ 0 → Returned w (Err (EndsEarly at)) old row
+  ends_early s us e l =
+      refused (s ∷ us) (EndsEarly at) e (ap (rest_read g form root (s ∷ us) at) (none_left bs l) ∙ read_early g form root s us at)
 
-  pub all_read : (runs : List Run) (h : ℕ) → to_come runs h ≡ ts → h ≡ 0 → length text ≤ from → at ≤ length row → drop at row ≡ drop at old → Returned w (Ok at) old row
-  all_read runs h e z l m k =
+  pub all_read : ts ≡ [] → length bs ≡ 0 → at ≤ length row → drop at row ≡ drop at old → Returned w (Ok at) old row
+  all_read e l m k =
       returned_ok w old row at m k
       (reads
-      ∙ (ap (λ (x : List Sort). with_front (take at row) (rest_read g form root x at (lines (drop from text)))) (sym e ∙ none_come runs h z)
-      ∙ (ap (λ (x : List TextLine). with_front (take at row) (rest_read g form root [] at x)) (text_done text from l)
+      ∙ (ap (λ (x : List Sort). with_front (take at row) (rest_read g form root x at (lines bs))) e
+      ∙ (ap (λ (x : List TextLine). with_front (take at row) (rest_read g form root [] at x)) (none_left bs l)
       ∙ (ap (with_front (take at row)) (read_done g form root at) ∙ front_done (take at row)))))
 
-  module _ (here : from < length text) where
-    pub too_many : Comes ts → at ≡ 1024 → Returned w (Err TooManyNodes) old row
-    too_many t m =
-        refused (t.first ∷ t.more) TooManyNodes t.are (read_many g form root t.first t.more at (drop from text) (text_left text from here) m)
+  module _ (here : 0 < length bs) (s : Sort) (us : List Sort) (next : ts ≡ s ∷ us) where
+    pub too_many : at ≡ 1024 → Returned w (Err TooManyNodes) old row
+    too_many m = refused (s ∷ us) TooManyNodes next (read_many g form root s us at bs here m)
 
-    pub wrong_line : Comes ts → (at ≡ 1024 → ⊥) → first_entry form (drop from text) ≡ None → Returned w (Err (WrongLine at)) old row
-    wrong_line t m f =
-        refused (t.first ∷ t.more) (WrongLine at) t.are (read_wrong g form root t.first t.more at (drop from text) (text_left text from here) m f)
+    module _ (few : at ≡ 1024 → ⊥) where
+      pub wrong_line : first_entry form bs ≡ None → Returned w (Err (WrongLine at)) old row
+      wrong_line f = refused (s ∷ us) (WrongLine at) next (read_wrong g form root s us at bs here few f)
 
-    module _ (s : Sort) (us : List Sort) (next : ts ≡ s ∷ us) (few : at ≡ 1024 → ⊥) (n : Entry) (head : Kind) (line : first_entry form (drop from text) ≡ Some n) (headed : head ≡ heading root n.node.kind) where
-      pub misplaced : allowed g head s n.node.kind ≡ false → Returned w (Err (Misplaced at)) old row
-      misplaced a =
-          refused (s ∷ us) (Misplaced at) next
-          (read_misplaced g form root s us at (drop from text) (text_left text from here) n few line (ap (λ (j : Kind). allowed g j s n.node.kind) (sym headed) ∙ a))
+      module _ (n : Entry) (head : Kind) (line : first_entry form bs ≡ Some n) (headed : head ≡ heading root n.node.kind) where
+        pub misplaced : allowed g head s n.node.kind ≡ false → Returned w (Err (Misplaced at)) old row
+        misplaced a =
+            refused (s ∷ us) (Misplaced at) next (read_misplaced g form root s us at bs here n few line (ap (λ (j : Kind). allowed g j s n.node.kind) (sym headed) ∙ a))
 
-      -- the state after one line more
-      pub turned : (vs : List Sort) (after : ℕ) → allowed g head s n.node.kind ≡ true → at < length row → after ≡ from + before 10 (drop from text) + 1 → vs ≡ child_sorts n.node.kind n.node.number ++ us
-          → w ≡ with_front (take (at + 1) (set row at n)) (rest_read g form (Some head) vs (at + 1) (lines (drop after text)))
-      turned vs after a l x v =
-          let b = before 10 (drop from text) in
-          let k = n.node.kind in
-          let m = n.node.number in
-          let on = read_on g form root s us at (drop from text) (text_left text from here) n few line (ap (λ (j : Kind). allowed g j s k) (sym headed) ∙ a) in
-          let j : from + (b + 1) ≡ after = omega arith in
-          let far : drop (b + 1) (drop from text) ≡ drop after text = drop-drop (b + 1) from text ∙ ap (λ (i : ℕ). drop i text) j in
-          reads
-          ∙ (ap (λ (y : List Sort). with_front (take at row) (rest_read g form root y at (lines (drop from text)))) next
-          ∙ (ap (with_front (take at row)) on
-          ∙ (front_more row at n _ l
-          ∙ (ap (λ (y : List ℕ). with_front (take (at + 1) (set row at n)) (rest_read g form (Some (heading root k)) (child_sorts k m ++ us) (at + 1) (lines y))) far
-          ∙ (ap (λ (y : List Sort). with_front (take (at + 1) (set row at n)) (rest_read g form (Some (heading root k)) y (at + 1) (lines (drop after text)))) (sym v)
-          ∙ ap (λ (y : Kind). with_front (take (at + 1) (set row at n)) (rest_read g form (Some y) vs (at + 1) (lines (drop after text)))) (sym headed))))))
+        -- the state after one line more
+        pub turned : (vs : List Sort) (after : List ℕ) → allowed g head s n.node.kind ≡ true → at < length row → after ≡ drop (before 10 bs + 1) bs → vs ≡ child_sorts n.node.kind n.node.number ++ us
+            → w ≡ with_front (take (at + 1) (set row at n)) (rest_read g form (Some head) vs (at + 1) (lines after))
+        turned vs after a l x v =
+            let k = n.node.kind in
+            let on = read_on g form root s us at bs here n few line (ap (λ (j : Kind). allowed g j s k) (sym headed) ∙ a) in
+            reads
+            ∙ (ap (λ (y : List Sort). with_front (take at row) (rest_read g form root y at (lines bs))) next
+            ∙ (ap (with_front (take at row)) on
+            ∙ (front_more row at n _ l
+            ∙ (ap (λ (y : List ℕ). with_front (take (at + 1) (set row at n)) (rest_read g form (Some (heading root k)) (child_sorts k n.node.number ++ us) (at + 1) (lines y))) (sym x)
+            ∙ (ap (λ (y : List Sort). with_front (take (at + 1) (set row at n)) (rest_read g form (Some (heading root k)) y (at + 1) (lines after))) (sym v)
+            ∙ ap (λ (y : Kind). with_front (take (at + 1) (set row at n)) (rest_read g form (Some y) vs (at + 1) (lines after))) (sym headed))))))

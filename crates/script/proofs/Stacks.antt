@@ -23,20 +23,23 @@ top_run runs i d h = ap (stacked []) (take_more runs i d h) ∙ stacked_push [] 
 pub top_set : (runs : List Run) (i : ℕ) (r : Run) → i < length runs → to_come (set runs i r) (i + 1) ≡ run_of r ++ to_come runs i
 top_set runs i r h = ap (stacked []) (take_more_set runs i r h) ∙ stacked_push [] (take i runs) r
 
-pub used_up : (runs : List Run) (at : ℕ) (d : Run) → 0 < at → at ≤ length runs → (get_or runs (at - 1) d).left ≡ 0 → to_come runs (at - 1) ≡ to_come runs at
-used_up runs at d p l z =
-    let e : at - 1 + 1 ≡ at = omega arith in
-    sym (ap (to_come runs) (sym e) ∙ (top_run runs (at - 1) d (omega arith) ∙ ap (λ (n : ℕ). replicate n (get_or runs (at - 1) d).sort ++ to_come runs (at - 1)) z))
+pub none_come : (runs : List Run) (h : ℕ) → h ≡ 0 → to_come runs h ≡ []
+unfolding stacked
+none_come runs h e = ap (to_come runs) e
 
-pub one_used : (runs : List Run) (at : ℕ) (d : Run) (k : ℕ) → 0 < at → at ≤ length runs → (get_or runs (at - 1) d).left ≡ suc k → to_come runs at ≡ (get_or runs (at - 1) d).sort ∷ to_come (set runs (at - 1) (record { sort = (get_or runs (at - 1) d).sort; left = k })) at
-one_used runs at d k p l z =
-    let e : at - 1 + 1 ≡ at = omega arith in
-    let s = (get_or runs (at - 1) d).sort in
-    let r : Run = record { sort = s; left = k } in
-    ap (to_come runs) (sym e)
-    ∙ (top_run runs (at - 1) d (omega arith)
-    ∙ (ap (λ (n : ℕ). replicate n s ++ to_come runs (at - 1)) z
-    ∙ (ap (λ (l : List Sort). s ∷ l) (sym (top_set runs (at - 1) r (omega arith))) ∙ ap (λ (j : ℕ). s ∷ to_come (set runs (at - 1) r) j) e)))
+-- of a stack whose last run stands at i
+module _ (runs : List Run) (i h : ℕ) (d : Run) (top : h ≡ i + 1) (here : i < length runs) where
+  pub used_up : (get_or runs i d).left ≡ 0 → to_come runs i ≡ to_come runs h
+  used_up z = sym (ap (to_come runs) top ∙ (top_run runs i d here ∙ ap (λ (n : ℕ). replicate n (get_or runs i d).sort ++ to_come runs i) z))
+
+  pub one_used : (k : ℕ) → (get_or runs i d).left ≡ suc k → to_come runs h ≡ (get_or runs i d).sort ∷ to_come (set runs i (record { sort = (get_or runs i d).sort; left = k })) h
+  one_used k z =
+      let s = (get_or runs i d).sort in
+      let r : Run = record { sort = s; left = k } in
+      ap (to_come runs) top
+      ∙ (top_run runs i d here
+      ∙ (ap (λ (n : ℕ). replicate n s ++ to_come runs i) z
+      ∙ (ap (λ (l : List Sort). s ∷ l) (sym (top_set runs i r here)) ∙ ap (λ (j : ℕ). s ∷ to_come (set runs i r) j) (sym top))))
 
 -- The children of a kind
 

@@ -67,9 +67,11 @@ pub fn read_line(form: Form, line: &[u8]) -> Option<Entry>
     let name = next_name(row.role, &mut fields)?;
     let number = next_number(row.most, &mut fields)?;
     let origin = next_origin(form, row.role, &mut fields)?;
-    if fields.next().is_some() {
-        return None;
+    match fields.next() {
+        None => Some(Entry {
+            node: Node { kind, name, number },
+            origin,
+        }),
+        Some(_) => None,
     }
-    let node = Node { kind, name, number };
-    Some(Entry { node, origin })
 }

@@ -56,9 +56,9 @@ impl Pending {
         ensures height { self.new.height ≤ self.old.height }
     {
         while let Some(last) = self.height.checked_sub(1) {
-            let run = &mut self.runs[last];
+            let run = self.runs[last];
             if run.left > 0 {
-                run.left -= 1;
+                self.runs[last].left = run.left - 1;
                 return Some(run.sort);
             }
             self.height = last;

@@ -51,11 +51,15 @@ fn read_lines<G: Grammar>(form: Form, text: &[u8], row: &mut [Entry]) -> Result<
     let mut count = 0;
     let mut root: Option<Kind> = None;
     while !rest.is_empty() {
-        let sort = pending.take().ok_or(ReadFault::AfterEnd(count))?;
+        let Some(sort) = pending.take() else {
+            return Err(ReadFault::AfterEnd(count));
+        };
         if count == MOST_NODES {
             return Err(ReadFault::TooManyNodes);
         }
-        let line = first_line(form, rest).ok_or(ReadFault::WrongLine(count))?;
+        let Some(line) = first_line(form, rest) else {
+            return Err(ReadFault::WrongLine(count));
+        };
         let node = line.entry.node;
         let head = root.unwrap_or(node.kind);
         if !is_allowed::<G>(head, sort, node.kind) {
