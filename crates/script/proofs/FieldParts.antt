@@ -1,41 +1,20 @@
 -- Fields of a line, place by place.
-use Rattle.std.proofs.Common.{◌≡◌, ℕ, zero, suc, ◌+◌, ◌-◌, ◌*◌, ◌<◌, ◌≤◌, Bool, true, false, cond, not, ◌&&◌, ◌||◌, eqb, leb, List, [], ◌∷◌, ◌++◌, length, get_or, take, drop, replicate, Some, None, Option, sym, refl, ap, ◌∙◌, ⊎_elim, append-nil, arith}
+use Rattle.std.proofs.Common.{◌≡◌, ℕ, zero, suc, ◌+◌, ◌-◌, ◌*◌, ◌<◌, ◌≤◌, Bool, true, false, cond, not, ◌&&◌, eqb, leb, List, [], ◌∷◌, ◌++◌, length, get_or, take, drop, replicate, Some, None, Option, sym, refl, ap, ◌∙◌, append-nil, arith}
 use Rattle.std.specs.Char.{is_ascii_digit}
 use Rattle.std.specs.Int.{IsInRange}
 use Rattle.std.specs.Str.{all_ascii_digits}
-use Rattle.std.proofs.lemmas.List.{drop_more, drop_all, take_all, take-replicate, drop-replicate, take_rest}
+use Rattle.std.proofs.lemmas.List.{drop_more, take-replicate, drop-replicate}
 use Rattle.std.proofs.lemmas.Str.Parse.{digit_at}
-use Rattle.std.proofs.lemmas.Bool.{cases_lt, cond-true, cond-false, and_left, and_from, and_right, le-leb, eq-eqb, ne_eqb}
+use Rattle.std.proofs.lemmas.Bool.{cond-true, cond-false, and_left, and_from, and_right, le-leb}
 use Rattle.model.specs.declared.nodes.Name.{Name}
 use Rattle.model.specs.Lists.{any, if_some}
 use Rattle.model.specs.Names.{padded}
-use Rattle.model.specs.Fields.{joins, pieces, value_from, decimal_form, number_field, small_letter, letter_or_digit, stem_form, named, written_mark, of_pieces, name_field, origin_field, copied_field, private_field}
+use Rattle.model.specs.Fields.{joins, pieces, value_from, decimal_form, number_field, small_letter, letter_or_digit, stem_form, named, written_mark, of_pieces, name_field}
 use Rattle.laws.proofs.Pieces.{cut, after_each}
 use Rattle.laws.proofs.Numbers.{own}
-use Rattle.script.specs.Buffers.{pasted}
 use Rattle.script.specs.Cuts.{before, stem_of}
 
--- Finding a separator
-
-pub before_more : (s : ℕ) (bs : List ℕ) (i : ℕ) → i < length bs → (get_or bs i 0 ≡ s → ⊥) → before s (drop i bs) ≡ suc (before s (drop (i + 1) bs))
-before_more s bs i h n = ap (before s) (drop_more bs i 0 h) ∙ cond-false (eqb (get_or bs i 0) s) _ _ (ne_eqb (get_or bs i 0) s n)
-
-pub before_here : (s : ℕ) (bs : List ℕ) (i : ℕ) → i < length bs → get_or bs i 0 ≡ s → before s (drop i bs) ≡ 0
-before_here s bs i h e = ap (before s) (drop_more bs i 0 h) ∙ cond-true (eqb (get_or bs i 0) s) _ _ (eq-eqb (get_or bs i 0) s e)
-
-pub before_end : (s : ℕ) (bs : List ℕ) (i : ℕ) → length bs ≤ i → before s (drop i bs) ≡ 0
-before_end s bs i h = ap (before s) (drop_all i bs h)
-
 -- Digits
-
-pub digits_more : (s : List ℕ) (i : ℕ) → i < length s → is_ascii_digit (get_or s i 0) ≡ true → all_ascii_digits (drop (i + 1) s) ≡ all_ascii_digits (drop i s)
-digits_more s i h e = sym (ap all_ascii_digits (drop_more s i 0 h) ∙ ap (λ (t : Bool). t && all_ascii_digits (drop (i + 1) s)) e)
-
-pub digits_fail : (s : List ℕ) (i : ℕ) → i < length s → is_ascii_digit (get_or s i 0) ≡ false → all_ascii_digits (drop i s) ≡ false
-digits_fail s i h e = ap all_ascii_digits (drop_more s i 0 h) ∙ ap (λ (t : Bool). t && all_ascii_digits (drop (i + 1) s)) e
-
-pub digits_end : (s : List ℕ) (i : ℕ) → length s ≤ i → all_ascii_digits (drop i s) ≡ true
-digits_end s i h = ap all_ascii_digits (drop_all i s h)
 
 pub a_digit : (ds : List ℕ) (i : ℕ) → all_ascii_digits ds ≡ true → i < length ds → IsInRange 48 57 (get_or ds i 0)
 a_digit ds i p h = digit_at ds i (own.to ds p) h
@@ -51,15 +30,6 @@ value_more n i ds h = ap (value_from n) (drop_more ds i 0 h)
 
 abbrev pub odd_one : ℕ → Bool
 odd_one d = not (letter_or_digit d)
-
-pub characters_more : (s : List ℕ) (i : ℕ) → i < length s → letter_or_digit (get_or s i 0) ≡ true → any odd_one (drop (i + 1) s) ≡ any odd_one (drop i s)
-characters_more s i h e = sym (ap (any odd_one) (drop_more s i 0 h) ∙ ap (λ (t : Bool). not t || any odd_one (drop (i + 1) s)) e)
-
-pub characters_fail : (s : List ℕ) (i : ℕ) → i < length s → letter_or_digit (get_or s i 0) ≡ false → any odd_one (drop i s) ≡ true
-characters_fail s i h e = ap (any odd_one) (drop_more s i 0 h) ∙ ap (λ (t : Bool). not t || any odd_one (drop (i + 1) s)) e
-
-pub characters_end : (s : List ℕ) (i : ℕ) → length s ≤ i → any odd_one (drop i s) ≡ false
-characters_end s i h = ap (any odd_one) (drop_all i s h)
 
 both_true : (x y z : Bool) → x ≡ true → z ≡ true → (x && y && z) ≡ y
 both_true x true z e f = ap (λ (t : Bool). t && true && z) e ∙ f
@@ -178,13 +148,3 @@ module _ (f : List ℕ) (q : ℕ) (is : q ≡ before 39 f) (here : q < length f)
       each (Some m) = named_at (take q f) m (Some p) s
 
 -- Origins
-
-pub origin_copied : (f : List ℕ) → 0 < length f → get_or f 0 0 ≡ 115 → copied_field (take (length f - 1) (drop 1 f)) ≡ origin_field f
-origin_copied [] h e = absurd (omega arith)
-origin_copied (c ∷ cs) h e = ap copied_field (take_rest (c ∷ cs) 1) ∙ sym (cond-true (eqb c 115) _ _ (eq-eqb c 115 e))
-
-pub origin_private : (f : List ℕ) → 0 < length f → get_or f 0 0 ≡ 112 → private_field (take (length f - 1) (drop 1 f)) ≡ origin_field f
-origin_private [] h e = absurd (omega arith)
-origin_private (c ∷ cs) h e =
-    ap private_field (take_rest (c ∷ cs) 1)
-    ∙ (sym (cond-true (eqb c 112) _ _ (eq-eqb c 112 e)) ∙ sym (cond-false (eqb c 115) _ _ (ne_eqb c 115 (λ z. omega arith))))

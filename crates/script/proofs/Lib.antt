@@ -1,4 +1,3 @@
-mod Pasting
 mod LineTexts
 mod Writes
 mod FieldParts

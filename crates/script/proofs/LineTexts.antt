@@ -1,7 +1,7 @@
 -- The text of a line by the code's row of its kind, and lines one after another.
-use Rattle.std.proofs.Common.{◌≡◌, ℕ, ◌+◌, ◌<◌, ◌≤◌, true, false, List, [], ◌∷◌, ◌++◌, length, get_or, take, drop, Some, None, decimal, Option, sym, refl, ap, ◌∙◌, append_assoc, append-nil, arith, length-append, take-append-drop}
+use Rattle.std.proofs.Common.{◌≡◌, ℕ, ◌+◌, ◌<◌, ◌≤◌, true, eqb, List, [], ◌∷◌, ◌++◌, length, get_or, take, drop, Some, None, decimal, Option, sym, refl, ap, ◌∙◌, append_assoc, append-nil, arith, length-append, take-append-drop}
 use Rattle.std.proofs.lemmas.List.{drop_more, take_more}
-use Rattle.std.proofs.lemmas.Bool.{cond-true, cond-false}
+use Rattle.std.proofs.lemmas.Bool.{cond-true, cond-false, ne_eqb}
 use Rattle.model.specs.declared.kinds.Role.{Role}
 use Rattle.model.specs.declared.kinds.Role.TheVariants.{Plain, Declares, Refers}
 use Rattle.model.specs.declared.kinds.KindRow.{KindRow}
@@ -10,15 +10,13 @@ use Rattle.model.specs.declared.nodes.Origin.TheVariants.{Outer}
 use Rattle.model.specs.declared.nodes.Entry.{Entry}
 use Rattle.model.specs.Kinds.{row, role_named}
 use Rattle.model.specs.Names.{nodes}
-use Rattle.model.specs.Fields.{plain, the_name, the_number, write_name, write_fields}
+use Rattle.model.specs.Fields.{plain, the_name, the_number, write_mark, write_name, write_fields}
 use Rattle.model.specs.Writing.{write_line, write_lines, write}
 use Rattle.model.specs.Table.{RowOf, shown, row_of}
-use Rattle.laws.proofs.KindTests.{line_fits}
-use Rattle.script.specs.Buffers.{pasted, name_text, number_text}
-use Rattle.script.proofs.Pasting.{two_puts}
+use Rattle.script.specs.Buffers.{name_text, number_text}
 
-pub no_name_text : (r : Role) (a : Name) → role_named r ≡ false → name_text r a ≡ []
-no_name_text r a e = cond-false (role_named r) (9 ∷ write_name a) [] e
+pub mark_some : (m : ℕ) → (m ≡ 0 → ⊥) → write_mark m ≡ 39 ∷ decimal m
+mark_some m e = cond-false (eqb m 0) _ _ (ne_eqb m 0 e)
 
 pub a_name_text : (r : Role) (a : Name) → role_named r ≡ true → name_text r a ≡ 9 ∷ write_name a
 a_name_text r a e = cond-true (role_named r) (9 ∷ write_name a) [] e
@@ -44,27 +42,6 @@ line_parts x e s =
     ap (λ (l : List ℕ). (row k).word ++ (l ++ (10 ∷ []))) (text_fields (row k).role (row k).most e)
     ∙ (ap (λ (l : List ℕ). (row k).word ++ l) (append_assoc a m (10 ∷ []))
     ∙ sym (ap (λ (t : RowOf). t.row.word ++ (name_text t.row.role e.node.name ++ (number_text t.row.most e.node.number ++ (10 ∷ [])))) s))
-
-pub length_line : (x : KindRow) (e : Entry) → shown x ≡ row_of e.node.kind → length (write_line plain e) ≡ length x.word.now + length (name_text x.role e.node.name) + length (number_text x.most e.node.number) + 1
-length_line x e s =
-    let m = number_text x.most e.node.number in
-    let a = name_text x.role e.node.name in
-    omega (arith, ap length (line_parts x e s), length-append x.word.now (a ++ (m ++ (10 ∷ []))), length-append a (m ++ (10 ∷ [])), length-append m (10 ∷ []))
-
-pub word_short : (x : KindRow) (e : Entry) → shown x ≡ row_of e.node.kind → length x.word.now ≤ 25
-word_short x e s = omega (arith, ap (λ (t : RowOf). length t.row.word) s, line_fits plain e.node.kind)
-
--- four calls in a row
-pub four_puts : (d d₁ d₂ d₃ d₄ : List ℕ) (a b₁ b₂ b₃ : ℕ) (s t u v : List ℕ) → a + (length s + length t + length u) ≤ length d
-    → d₁ ≡ pasted d a s → b₁ ≡ a + length s → d₂ ≡ pasted d₁ b₁ t → b₂ ≡ b₁ + length t → d₃ ≡ pasted d₂ b₂ u → b₃ ≡ b₂ + length u → d₄ ≡ pasted d₃ b₃ v
-    → d₄ ≡ pasted d a (s ++ (t ++ (u ++ v)))
-four_puts d d₁ d₂ d₃ d₄ a b₁ b₂ b₃ s t u v h p₁ e₁ p₂ e₂ p₃ e₃ p₄ =
-    let l = length-append s t in
-    let m = length-append (s ++ t) u in
-    let q₂ = two_puts d d₁ d₂ a b₁ s t (omega arith) p₁ e₁ p₂ in
-    let q₃ = two_puts d d₂ d₃ a b₂ (s ++ t) u (omega arith) q₂ (omega arith) p₃ in
-    two_puts d d₃ d₄ a b₃ ((s ++ t) ++ u) v (omega arith) q₃ (omega arith) p₄
-    ∙ ap (pasted d a) (append_assoc (s ++ t) u v ∙ append_assoc s t (u ++ v))
 
 -- Lines
 

@@ -1,14 +1,8 @@
 -- The stack of runs.
-use Rattle.std.proofs.Common.{◌≡◌, ℕ, suc, ◌+◌, ◌-◌, ◌<◌, ◌≤◌, Bool, true, leb, List, [], ◌∷◌, ◌++◌, length, get_or, take, set, replicate, sym, refl, ap, ◌∙◌, arith}
+use Rattle.std.proofs.Common.{◌≡◌, ℕ, suc, ◌+◌, ◌<◌, Bool, true, leb, List, [], ◌∷◌, ◌++◌, length, get_or, take, set, replicate, sym, refl, ap, ◌∙◌}
 use Rattle.std.proofs.lemmas.List.{take_more, take_more_set}
-use Rattle.model.specs.declared.kinds.Kind.{Kind}
 use Rattle.model.specs.declared.kinds.Sort.{Sort}
-use Rattle.model.specs.declared.kinds.Children.{Children as CodeChildren}
-use Rattle.model.specs.declared.kinds.KindRow.{KindRow}
-use Rattle.model.specs.Kinds.{Children, exactly, as_many, row}
-use Rattle.model.specs.Table.{shown, shown_children, row_of}
-use Rattle.model.proofs.KindTables.{every_kind}
-use Rattle.model.proofs.TableRows.{children_are}
+use Rattle.model.specs.Kinds.{Children, exactly, as_many}
 use Rattle.script.specs.declared.pending.Run.{Run}
 use Rattle.script.specs.Runs.{run_of, stacked, to_come}
 
@@ -46,7 +40,3 @@ module _ (runs : List Run) (i h : ℕ) (d : Run) (top : h ≡ i + 1) (here : i <
 abbrev few : Children → Bool
 few (exactly ss) = leb (length ss) 3
 few (as_many s) = true
-
--- a kind has at most three, where the number does not say how many
-pub children_few : (x : KindRow) (k : Kind) (cs : CodeChildren) → shown x ≡ row_of k → x.children ≡ cs → few (shown_children cs) ≡ true
-children_few x k cs e h = ap few (children_are x k cs e h) ∙ every_kind (λ l. few (row l).children) refl k

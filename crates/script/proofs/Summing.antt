@@ -1,80 +1,50 @@
--- Counting nodes of a kind, and finding a line by its number.
-use Rattle.std.proofs.Common.{◌≡◌, ℕ, ◌+◌, ◌-◌, ◌<◌, ◌≤◌, Bool, true, false, cond, List, [], ◌∷◌, ◌++◌, length, get_or, take, drop, sym, refl, ap, ◌∙◌, ⊎_elim, arith, length-append}
-use Rattle.std.proofs.lemmas.List.{take_more, drop_all, drop-drop, length-drop, get_or-drop}
-use Rattle.std.proofs.lemmas.Bool.{cond-true, cond-false, cases_lt}
-use Rattle.model.specs.declared.kinds.Kind.{Kind}
-use Rattle.model.specs.declared.nodes.Entry.{Entry}
+-- Counting nodes of a kind, and the lines of a text by their numbers, in the words of the library.
+use Rattle.std.proofs.Common.{◌≡◌, ℕ, zero, suc, Bool, true, false, cond, eqb, List, [], ◌∷◌, get_or, filter, Some, None, Option, refl, ap, ◌∙◌}
+use denote.Ref.{Bor}
+use Rattle.std.specs.Prelude.{slice_get}
+use Rattle.std.specs.Option.{option_map, unwrap_or}
+use Rattle.std.specs.List.{slice_split, onto_first}
+use Rattle.std.proofs.lemmas.Option.{unwrap_or-slice_get}
 use Rattle.model.specs.Lists.{keep}
-use Rattle.model.specs.Kinds.{is}
-use Rattle.model.specs.Reading.{TextLine, lines}
-use Rattle.script.specs.Cuts.{before}
-use Rattle.script.specs.Summaries.{of_kind, no_line}
-use Rattle.script.proofs.ReadParts.{lines_split}
+use Rattle.model.specs.Reading.{TextLine, longer, lines}
+use Rattle.script.specs.Summaries.{no_line}
 
-keep_append : {A : Type 0} (t : A → Bool) (xs ys : List A) → keep t (xs ++ ys) ≡ keep t xs ++ keep t ys
-keep_append t [] ys = refl
-keep_append t (x ∷ xs) ys = go (t x) (keep_append t xs ys)
+pub kept : {A : Type 0} (t : A → Bool) (xs : List A) → filter t xs ≡ keep t xs
+kept t [] = refl
+kept t (x ∷ xs) = go (t x) (kept t xs)
   where
-    go : (b : Bool) → keep t (xs ++ ys) ≡ keep t xs ++ keep t ys → cond b (x ∷ keep t (xs ++ ys)) (keep t (xs ++ ys)) ≡ cond b (x ∷ keep t xs) (keep t xs) ++ keep t ys
-    go true ih = ap (λ l. x ∷ l) ih
-    go false ih = ih
+    go : (b : Bool) → filter t xs ≡ keep t xs → cond b (x ∷ filter t xs) (filter t xs) ≡ cond b (x ∷ keep t xs) (keep t xs)
+    go true e = ap (λ l. x ∷ l) e
+    go false e = e
 
-module _ (k : Kind) (es : List Entry) (i : ℕ) (d : Entry) (here : i < length es) where
-  counts_on : (b : Bool) → is k (get_or es i d).node.kind ≡ b → length (of_kind k (take (i + 1) es)) ≡ length (of_kind k (take i es)) + cond b 1 0
-  counts_on b e =
-      let t : Entry → Bool = λ x. is k x.node.kind in
-      ap length (ap (keep t) (take_more es i d here) ∙ keep_append t (take i es) (get_or es i d ∷ []))
-      ∙ (length-append (keep t (take i es)) (keep t (get_or es i d ∷ [])) ∙ ap (λ (n : ℕ). length (of_kind k (take i es)) + n) (last b e))
-    where
-      last : (b : Bool) → is k (get_or es i d).node.kind ≡ b → length (cond (is k (get_or es i d).node.kind) (get_or es i d ∷ []) []) ≡ cond b 1 0
-      last true e = ap length (cond-true _ (get_or es i d ∷ []) [] e)
-      last false e = ap length (cond-false _ (get_or es i d ∷ []) [] e)
+abbrev pub ends : ℕ → Bool
+ends b = eqb b 10
 
-  pub counts_one : is k (get_or es i d).node.kind ≡ true → length (of_kind k (take (i + 1) es)) ≡ length (of_kind k (take i es)) + 1
-  counts_one e = counts_on true e
+-- a line has the bytes of the piece with its number, and there are no bytes past the last
+abbrev Alike : List TextLine → List (List ℕ) → Type 0
+Alike ls ps = (n : ℕ) → (get_or ls n no_line).bytes ≡ get_or ps n []
 
-  pub counts_none : is k (get_or es i d).node.kind ≡ false → length (of_kind k (take (i + 1) es)) ≡ length (of_kind k (take i es))
-  counts_none e = let c = counts_on false e in omega arith
+one_longer : (b : ℕ) (ls : List TextLine) (ps : List (List ℕ)) → Alike ls ps → Alike (longer b ls) (onto_first b ps)
+one_longer b [] [] h zero = refl
+one_longer b [] [] h (suc n) = refl
+one_longer b [] (p ∷ ps) h zero = ap (λ (l : List ℕ). b ∷ l) (h 0)
+one_longer b [] (p ∷ ps) h (suc n) = h (suc n)
+one_longer b (l ∷ ls) [] h zero = ap (λ (l : List ℕ). b ∷ l) (h 0)
+one_longer b (l ∷ ls) [] h (suc n) = h (suc n)
+one_longer b (l ∷ ls) (p ∷ ps) h zero = ap (λ (l : List ℕ). b ∷ l) (h 0)
+one_longer b (l ∷ ls) (p ∷ ps) h (suc n) = h (suc n)
 
--- Lines
-
--- the lines after a line that is ended, and after one that is not
-pub line_on : (text : List ℕ) (from e : ℕ) (n : ℕ) → from < length text → e ≡ from + before 10 (drop from text) → lines (drop from text) ≡ drop n (lines text) → lines (drop (e + 1) text) ≡ drop (n + 1) (lines text)
-line_on text from e n l h s =
-    let b = before 10 (drop from text) in
-    let j : from + (b + 1) ≡ e + 1 = omega arith in
-    ap lines (sym (drop-drop (b + 1) from text ∙ ap (λ (i : ℕ). drop i text) j))
-    ∙ (sym (ap (drop 1) (lines_split (drop from text) (omega (arith, length-drop from text)))) ∙ (ap (drop 1) s ∙ drop-drop 1 n (lines text)))
-
-drop_none : {A : Type 0} (i : ℕ) → drop {A = A} i [] ≡ []
-drop_none i = drop_all i [] (omega arith)
-
--- no line begins at the end
-none_on : (text : List ℕ) (from n m : ℕ) → length text ≤ from → n ≤ m → lines (drop from text) ≡ drop n (lines text) → [] ≡ drop m (lines text)
-none_on text from n m l h s =
-    let none : drop n (lines text) ≡ [] = sym s ∙ ap lines (drop_all from text l) in
-    let j : n + (m - n) ≡ m = omega arith in
-    sym (drop_none (m - n)) ∙ (ap (drop (m - n)) (sym none) ∙ (drop-drop (m - n) n (lines text) ∙ ap (λ (i : ℕ). drop i (lines text)) j))
-
--- nor after the last line
-pub last_on : (text : List ℕ) (from e n m : ℕ) → from ≤ length text → e ≡ from + before 10 (drop from text) → e ≡ length text → n < m → lines (drop from text) ≡ drop n (lines text) → lines (drop e text) ≡ drop m (lines text)
-last_on text from e n m l h k lt s =
-    ap lines (drop_all e text (omega arith))
-    ∙ ⊎_elim
-    (λ (f : from < length text). none_on text (e + 1) (n + 1) m (omega arith) (omega arith) (line_on text from e n f h s))
-    (λ (f : length text ≤ from). none_on text from n m f (omega arith) s)
-    (cases_lt from (length text))
-
--- the line that begins at a place
-pub line_is : (text : List ℕ) (from e n : ℕ) → e ≡ from + before 10 (drop from text) → lines (drop from text) ≡ drop n (lines text) → take (e - from) (drop from text) ≡ (get_or (lines text) n no_line).bytes
-line_is text from e n h s =
-    let z : n + 0 ≡ n = omega arith in
-    let b : e - from ≡ before 10 (drop from text) = omega arith in
-    ap (λ (i : ℕ). take i (drop from text)) b
-    ∙ (first (drop from text)
-    ∙ (ap (λ (ls : List TextLine). (get_or ls 0 no_line).bytes) s
-    ∙ (ap (λ (l : TextLine). l.bytes) (get_or-drop n (lines text) 0 no_line) ∙ ap (λ (i : ℕ). (get_or (lines text) i no_line).bytes) z)))
+pub lines_are : (bs : List ℕ) → Alike (lines bs) (slice_split ends bs)
+lines_are [] zero = refl
+lines_are [] (suc n) = refl
+lines_are (b ∷ bs) n = go (eqb b 10) n (lines_are bs)
   where
-    first : (bs : List ℕ) → take (before 10 bs) bs ≡ (get_or (lines bs) 0 no_line).bytes
-    first [] = refl
-    first (c ∷ cs) = sym (ap (λ (ls : List TextLine). (get_or ls 0 no_line).bytes) (lines_split (c ∷ cs) (omega arith)))
+    go : (t : Bool) (m : ℕ) → Alike (lines bs) (slice_split ends bs) → (get_or (cond t (record { bytes = []; ended = true } ∷ lines bs) (longer b (lines bs))) m no_line).bytes ≡ get_or (cond t ([] ∷ slice_split ends bs) (onto_first b (slice_split ends bs))) m []
+    go true zero h = refl
+    go true (suc m) h = h m
+    go false m h = one_longer b (lines bs) (slice_split ends bs) h m
+
+-- what stands at a place, or nothing
+pub or_none : (o : Option (Bor (List ℕ))) (d : Bor (List ℕ)) (ps : List (List ℕ)) (n : ℕ) → d.now ≡ [] → option_map (λ x. x.now) o ≡ slice_get ps n → (unwrap_or o d).now ≡ get_or ps n []
+or_none None d ps n e h = e ∙ (ap (λ (o : Option (List ℕ)). unwrap_or o []) h ∙ unwrap_or-slice_get ps n [])
+or_none (Some x) d ps n e h = ap (λ (o : Option (List ℕ)). unwrap_or o []) h ∙ unwrap_or-slice_get ps n []

@@ -68,10 +68,10 @@ pub fn read_line(form: Form, line: &[u8]) -> Option<Entry>
     let number = next_number(row.most, &mut fields)?;
     let origin = next_origin(form, row.role, &mut fields)?;
     match fields.next() {
-        None => Some(Entry {
-            node: Node { kind, name, number },
-            origin,
-        }),
+        None => {
+            let node = Node { kind, name, number };
+            Some(Entry { node, origin })
+        }
         Some(_) => None,
     }
 }

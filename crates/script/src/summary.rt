@@ -12,7 +12,7 @@ pub fn count_kind(program: &[Entry], kind: Kind) -> usize
 {
     program
         .iter()
-        .filter(|entry| entry.node.kind == kind)
+        .filter(|entry| kind == entry.node.kind)
         .count()
 }
 

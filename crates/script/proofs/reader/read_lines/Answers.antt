@@ -1,4 +1,4 @@
-use Rattle.std.proofs.Common.{◌≡◌, ◌<◌, length, sym, refl, ap, ◌∙◌, rules, arith}
+use Rattle.std.proofs.Common.{◌≡◌, ◌<◌, length, sym, refl, ◌∙◌, rules, arith}
 use Rattle.script.specs.Forms.{form_of}
 use Rattle.script.proofs.ReadParts.{started, head_is, rest_kept, after_end, ends_early, all_read, too_many, wrong_line, misplaced, turned}
 use Rattle.script.proofs.reader.read_lines.Goals as goal

@@ -1,4 +1,4 @@
-use Rattle.std.proofs.Common.{◌≡◌, ◌/◌, ◌%◌, ◌+◌, [], ◌∷◌, ◌++◌, length, decimal, ap, arith}
+use Rattle.std.proofs.Common.{length, ap, arith}
 use Rattle.std.proofs.lemmas.Fmt.{decimal_digit, decimal_step, length-decimal-le}
 use Rattle.script.proofs.Sinks.{first_room, next_room, both_put}
 use Rattle.script.proofs.writer.+put_number.Goals as goal

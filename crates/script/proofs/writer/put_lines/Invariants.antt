@@ -1,4 +1,4 @@
-use Rattle.std.proofs.Common.{length, take}
+use Rattle.std.proofs.Common.{take}
 use Rattle.model.specs.Fields.{plain}
 use Rattle.model.specs.Writing.{write_lines}
 use Rattle.script.proofs.writer.put_lines.Given as goal

@@ -1,5 +1,4 @@
-use Rattle.std.proofs.Common.{List, ◌++◌, replicate, ap, ◌∙◌, arith}
-use Rattle.model.specs.declared.kinds.Sort.{Sort}
+use Rattle.std.proofs.Common.{◌++◌, replicate, ap, ◌∙◌, arith}
 use Rattle.script.specs.Runs.{Coming}
 use Rattle.script.proofs.Stacks.{top_set}
 use Rattle.script.proofs.pending.Pending.push.Goals as goal

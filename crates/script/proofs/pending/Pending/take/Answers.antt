@@ -1,6 +1,6 @@
-use Rattle.std.proofs.Common.{◌≡◌, ◌+◌, ◌-◌, List, [], get_or, sym, ap, ◌∙◌, arith}
+use Rattle.std.proofs.Common.{sym, ap, ◌∙◌, arith}
 use Rattle.model.specs.declared.kinds.Sort.{Sort}
-use Rattle.script.specs.Runs.{Coming, to_come}
+use Rattle.script.specs.Runs.{Coming}
 use Rattle.script.proofs.Stacks.{used_up, one_used, none_come}
 use Rattle.script.proofs.pending.Pending.take.Goals as goal
 

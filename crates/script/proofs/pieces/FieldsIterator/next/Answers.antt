@@ -1,9 +1,7 @@
-use Rattle.std.proofs.Common.{◌≡◌, ℕ, ◌+◌, ◌-◌, List, ◌∷◌, length, take, drop, Some, None, sym, ap, ◌∙◌, arith, rules}
+use Rattle.std.proofs.Common.{ℕ, ◌+◌, List, ◌∷◌, length, take, Some, None, sym, ap, ◌∙◌, arith}
 use Rattle.std.proofs.lemmas.List.{take_rest}
-use denote.Ref.{Bor}
-use Rattle.std.proofs.Common.{Option}
 use Rattle.model.specs.Fields.{pieces}
-use Rattle.script.specs.FieldsLeft.{pieces_of, fields_left}
+use Rattle.script.specs.FieldsLeft.{pieces_of}
 use Rattle.script.proofs.Places.{first_place}
 use Rattle.script.proofs.FieldParts.{pieces_all, pieces_cut}
 use Rattle.script.proofs.pieces.FieldsIterator.next.Goals as goal
