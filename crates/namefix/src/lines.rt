@@ -1,10 +1,9 @@
 // Files read, and texts as they can be shown.
 use anyhow::anyhow;
 use model::nodes::Name;
-use std::alloc::{AllocError, Global};
 use std::fs::File;
-use std::io;
 use std::io::Read;
+use std::{fmt, io};
 
 // One byte more than a text may have tells that a file is too long.
 const ENOUGH: u64 = 32769;
@@ -27,29 +26,38 @@ pub fn read_file(rt: &HostRuntime, file: &str) -> anyhow::Result<Vec<u8>> {
 }
 
 // Bytes as they can be shown, with that between the fields: what is no printed character goes by its number.
-pub fn shown(heap: Global, bytes: &[u8], tab: char) -> Result<String, AllocError> {
-    let mut out = String::new(heap);
-    for b in bytes {
-        match *b {
-            9 => out.push(tab)?,
-            32..=126 => out.push(*b as char)?,
-            other => out.push_str(format!(in heap; "\\x{other:02x}")?.as_str())?,
+#[derive(Clone, Copy)]
+pub struct Shown<'a> {
+    pub bytes: &'a [u8],
+    pub tab: char,
+}
+
+impl fmt::Display for Shown<'_> {
+    fn fmt<W: fmt::Write>(&self, f: &mut fmt::Formatter<W>) -> fmt::Result {
+        for b in self.bytes {
+            match *b {
+                b'\t' => write!(f, "{}", self.tab)?,
+                32..=126 => write!(f, "{}", *b as char)?,
+                other => write!(f, "\\x{other:02x}")?,
+            }
         }
+        Ok(())
     }
-    Ok(out)
 }
 
 // A name as a text has it.
-pub fn spelling(heap: Global, name: &Name) -> Result<String, AllocError> {
-    let mut out = String::new(heap);
-    for b in &name.stem {
-        if *b != 0 {
-            out.push(*b as char)?;
+#[derive(Clone, Copy)]
+pub struct Spelling<'a>(pub &'a Name);
+
+impl fmt::Display for Spelling<'_> {
+    fn fmt<W: fmt::Write>(&self, f: &mut fmt::Formatter<W>) -> fmt::Result {
+        let Name { stem, mark } = self.0;
+        for b in stem.iter().filter(|b| **b != 0) {
+            write!(f, "{}", *b as char)?;
         }
+        if *mark > 0 {
+            write!(f, "'{mark}")?;
+        }
+        Ok(())
     }
-    if name.mark > 0 {
-        let mark = name.mark;
-        out.push_str(format!(in heap; "'{mark}")?.as_str())?;
-    }
-    Ok(out)
 }

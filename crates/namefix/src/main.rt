@@ -5,6 +5,7 @@ mod check;
 mod lines;
 mod names;
 mod refusals;
+mod scripts;
 mod swell;
 
 use anyhow::anyhow;

@@ -1,9 +1,10 @@
 // Says of each name of a script which declaration it reaches.
-use crate::{lines, refusals};
+use crate::lines::{Shown, Spelling};
+use crate::scripts::with_script;
 use model::grammar::ByRoot;
 use model::nodes::Entry;
 use scope::language::Language;
-use script::reader::{MOST_NODES, read};
+use script::reader::MOST_NODES;
 use script::summary::line;
 
 // A line for a name: its node, kind and spelling, and the line of the declaration that it reaches.
@@ -15,11 +16,14 @@ fn print_name(
     reach: Option<usize>,
 ) -> anyhow::Result<()> {
     let word = entry.node.kind.row().word;
-    let name = lines::spelling(rt.alloc(), &entry.node.name)?;
+    let name = format!(in rt.alloc(); "{}", Spelling(&entry.node.name))?;
     print!(rt; "{at:>4}  {word:<5}  {name:<14}  ")?;
     match reach {
         Some(declaration) => {
-            let there = lines::shown(rt.alloc(), line(text, declaration), ' ')?;
+            let there = Shown {
+                bytes: line(text, declaration),
+                tab: ' ',
+            };
             println!(rt; "-> {declaration:<4}  {there}")?;
         }
         None => println!(rt; "free")?,
@@ -39,10 +43,5 @@ fn print_names(rt: &HostRuntime, text: &[u8], program: &[Entry]) -> anyhow::Resu
 }
 
 pub fn run(rt: &HostRuntime, file: &str) -> anyhow::Result<()> {
-    let text = lines::read_file(rt, file)?;
-    let mut row = vec![in rt.alloc(); Entry::UNUSED; MOST_NODES]?;
-    match read::<ByRoot>(&text, &mut row) {
-        Ok(count) => print_names(rt, &text, &row[0..count]),
-        Err(fault) => refusals::print(rt, "load", &text, fault.into()),
-    }
+    with_script(rt, file, |text, program| print_names(rt, text, program))
 }

@@ -1,7 +1,8 @@
 // Refusals in words.
-use crate::lines;
+use crate::lines::Shown;
 use model::faults::{Layer, MendFault, ReadFault, RepairFault, TextFault};
 use script::summary::line;
+use std::fmt;
 
 // What is printed of a refusal, with the line of the text that it speaks of, if there is one.
 #[derive(Drop)]
@@ -9,51 +10,71 @@ pub struct Refusal {
     number: u8,
     place: usize,
     layer: Layer,
+    words: Words,
+}
+
+// The reason, and the line.
+#[derive(Drop)]
+struct Words {
     line: Option<usize>,
     reason: &'static str,
 }
 
-fn text_line(fault: TextFault) -> Option<usize> {
-    match fault {
-        TextFault::Read(ReadFault::WrongLine(line)) => Some(line),
-        TextFault::Read(ReadFault::Misplaced(line)) => Some(line),
-        TextFault::Read(ReadFault::AfterEnd(line)) => Some(line),
-        TextFault::Read(ReadFault::TooManyNodes) => Some(1024),
-        _ => None,
+impl Words {
+    fn of_text(reason: &'static str) -> Words {
+        Words { line: None, reason }
+    }
+
+    fn of_line(line: usize, reason: &'static str) -> Words {
+        Words {
+            line: Some(line),
+            reason,
+        }
     }
 }
 
-fn text_reason(fault: TextFault) -> &'static str {
-    match fault {
-        TextFault::TooShort(_) => "there is too little room",
-        TextFault::Read(ReadFault::TooLong) => "the text has more than 32,768 bytes",
-        TextFault::Read(ReadFault::WrongLine(_)) => {
-            "unknown word, a wrong, missing or extra field, or no line end"
+impl From<ReadFault> for Words {
+    fn from(fault: ReadFault) -> Words {
+        match fault {
+            ReadFault::TooLong => Words::of_text("the text has more than 32,768 bytes"),
+            ReadFault::WrongLine(line) => Words::of_line(
+                line,
+                "unknown word, a wrong, missing or extra field, or no line end",
+            ),
+            ReadFault::Misplaced(line) => {
+                Words::of_line(line, "no node of this kind may stand here")
+            }
+            ReadFault::AfterEnd(line) => Words::of_line(line, "the tree is full before this line"),
+            ReadFault::EndsEarly(_) => Words::of_text("the text ends before the tree is full"),
+            ReadFault::TooManyNodes => { Words::of_line(1024, "a program has at most 1,024 nodes") }
         }
-        TextFault::Read(ReadFault::Misplaced(_)) => "no node of this kind may stand here",
-        TextFault::Read(ReadFault::AfterEnd(_)) => "the tree is full before this line",
-        TextFault::Read(ReadFault::EndsEarly(_)) => "the text ends before the tree is full",
-        TextFault::Read(ReadFault::TooManyNodes) => "a program has at most 1,024 nodes",
     }
 }
 
-fn mend_reason(fault: MendFault) -> &'static str {
-    match fault {
-        MendFault::TooShort => "there is too little room",
-        MendFault::Repair(RepairFault::FromNoName(_)) => {
-            "it is copied from a node that is not there or has no name"
-        }
-        MendFault::Repair(RepairFault::SpelledApart(_)) => {
-            "it is not spelled as the lowest name that it belongs with, or as the free name that it is copied from"
-        }
-        MendFault::Repair(RepairFault::OuterDeclared(_)) => {
-            "a name of the outside world may not be declared"
-        }
-        MendFault::Repair(RepairFault::Lost(_)) => {
-            "no declaration that it belongs with is in sight, however it is spelled"
+// A draft's node is its line.
+impl From<RepairFault> for Words {
+    fn from(fault: RepairFault) -> Words {
+        match fault {
+            RepairFault::FromNoName(node) => Words::of_line(
+                node,
+                "it is copied from a node that is not there or has no name",
+            ),
+            RepairFault::SpelledApart(node) => Words::of_line(
+                node,
+                "it is not spelled as the lowest name that it belongs with, or as the free name that it is copied from",
+            ),
+            RepairFault::OuterDeclared(node) => {
+                Words::of_line(node, "a name of the outside world may not be declared")
+            }
+            RepairFault::Lost(node) => Words::of_line(
+                node,
+                "no declaration that it belongs with is in sight, however it is spelled",
+            ),
         }
     }
 }
+
+const TOO_SHORT: &str = "there is too little room";
 
 impl From<TextFault> for Refusal {
     fn from(fault: TextFault) -> Refusal {
@@ -61,48 +82,54 @@ impl From<TextFault> for Refusal {
             number: fault.number(),
             place: fault.place(),
             layer: fault.layer(),
-            line: text_line(fault),
-            reason: text_reason(fault),
+            words: match fault {
+                TextFault::TooShort(_) => Words::of_text(TOO_SHORT),
+                TextFault::Read(found) => found.into(),
+            },
         }
     }
 }
 
-// A draft's node is its line.
 impl From<MendFault> for Refusal {
     fn from(fault: MendFault) -> Refusal {
         Refusal {
             number: fault.number(),
             place: fault.place(),
             layer: fault.layer(),
-            line: match fault {
-                MendFault::TooShort => None,
-                MendFault::Repair(found) => Some(found.place()),
+            words: match fault {
+                MendFault::TooShort => Words::of_text(TOO_SHORT),
+                MendFault::Repair(found) => found.into(),
             },
-            reason: mend_reason(fault),
         }
     }
 }
 
-fn layer_word(layer: Layer) -> &'static str {
-    match layer {
-        Layer::Reading => "read",
-        Layer::Staging => "stage",
-        Layer::Repairing => "repair",
-        Layer::Session => "session",
+impl fmt::Display for Refusal {
+    fn fmt<W: fmt::Write>(&self, f: &mut fmt::Formatter<W>) -> fmt::Result {
+        let layer = match self.layer {
+            Layer::Reading => "read",
+            Layer::Staging => "stage",
+            Layer::Repairing => "repair",
+            Layer::Session => "session",
+        };
+        write!(f, "refused {} at {} {layer}", self.number, self.place)
     }
 }
 
 // The refusal of a call; then the line of the text that it speaks of, and the reason.
 pub fn print(rt: &HostRuntime, call: &str, text: &[u8], refusal: Refusal) -> anyhow::Result<()> {
-    let number = refusal.number;
-    let place = refusal.place;
-    let layer = layer_word(refusal.layer);
-    println!(rt; "{call} refused {number} at {place} {layer}")?;
-    if let Some(at) = refusal.line {
-        let there = lines::shown(rt.alloc(), line(text, at), '\t')?;
+    println!(rt; "{call} {refusal}")?;
+    let Words {
+        line: spoken_of,
+        reason,
+    } = refusal.words;
+    if let Some(at) = spoken_of {
+        let there = Shown {
+            bytes: line(text, at),
+            tab: '\t',
+        };
         println!(rt; "line {at}: {there}")?;
     }
-    let why = refusal.reason;
-    println!(rt; "{why}")?;
+    println!(rt; "{reason}")?;
     Ok(())
 }

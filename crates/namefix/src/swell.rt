@@ -25,9 +25,9 @@ pub fn run(rt: &HostRuntime) -> anyhow::Result<()> {
         Err(fault) => return refusals::print(rt, "load", text, fault.into()),
     };
     println!(rt; "Read: {count} nodes.")?;
-    match write(&row[0..count], &mut buffer) {
+    match write(&row[..count], &mut buffer) {
         Ok(length) => {
-            let same = if &buffer[0..length] == text {
+            let same = if &buffer[..length] == text {
                 "the same text"
             } else {
                 "another text"

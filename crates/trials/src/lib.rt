@@ -3,6 +3,8 @@
 #[cfg(test)]
 mod reading;
 #[cfg(test)]
+mod refused;
+#[cfg(test)]
 mod resolver;
 #[cfg(test)]
 mod scopes;

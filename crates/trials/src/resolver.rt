@@ -11,11 +11,10 @@ struct Declared {
     name: Name,
 }
 
-// A node that may have children to come.
+// A node that may have children to come, and what it declares for its last one to see.
 #[derive(Clone, Copy)]
 struct Open {
-    declared: Declared,
-    opens_scope: bool,
+    shows: Option<Declared>,
     left: usize,
 }
 
@@ -55,11 +54,11 @@ impl Resolver {
     }
 
     // A line begins where only the root is open.
-    fn begin_line(&mut self, declared: Declared, declares: bool) -> Result<(), AllocError> {
+    fn begin_line(&mut self, declared: Option<Declared>) -> Result<(), AllocError> {
         if let Some(before) = self.own_line {
             self.lines.push(before)?;
         }
-        self.own_line = if declares { Some(declared) } else { None };
+        self.own_line = declared;
         Ok(())
     }
 
@@ -77,12 +76,11 @@ impl Resolver {
         } else if depth == 0 {
             self.in_card = false;
         } else if depth == 1 && self.in_card {
-            let declares = matches!(kind.row().role, Role::Declares);
-            self.begin_line(declared, declares)?;
+            let declares = kind.row().role == Role::Declares;
+            self.begin_line(declares.then_some(declared))?;
         }
         self.open.push(Open {
-            declared,
-            opens_scope: matches!(kind, Kind::Let | Kind::Bind),
+            shows: matches!(kind, Kind::Let | Kind::Bind).then_some(declared),
             left: entry.node.arity(),
         })?;
         self.entered = self.entered.saturating_add(1);
@@ -100,40 +98,33 @@ impl Resolver {
 
     // The innermost scope whose last child is open.
     pub fn in_tree(&self, entry: &Entry) -> Option<usize> {
-        let mut found = None;
-        for scope in &self.open {
-            if scope.opens_scope
-                && scope.left == 0
-                && scope.declared.name.is_like(&entry.node.name)
-            {
-                found = Some(scope.declared.at);
-            }
-        }
-        self.by_role(entry, found)
+        let found = self
+            .open
+            .iter()
+            .rev()
+            .filter(|scope| scope.left == 0)
+            .find_map(|scope| scope.shows.filter(|shown| shown.name == entry.node.name));
+        self.by_role(entry, found.map(|shown| shown.at))
     }
 
     // The latest of the lines that have ended.
     pub fn in_card(&self, entry: &Entry) -> Option<usize> {
-        let mut found = None;
-        for line in &self.lines {
-            if line.name.is_like(&entry.node.name) {
-                found = Some(line.at);
-            }
+        if !self.in_card {
+            return self.by_role(entry, None);
         }
-        let seen = if self.in_card { found } else { None };
-        self.by_role(entry, seen)
+        let found = self
+            .lines
+            .iter()
+            .rev()
+            .find(|line| line.name == entry.node.name);
+        self.by_role(entry, found.map(|line| line.at))
     }
 
     // The first declaration anywhere.
     pub fn in_flat(&self, program: &[Entry], entry: &Entry) -> Option<usize> {
-        let mut found = None;
-        for (at, other) in program.iter().enumerate().rev() {
-            if matches!(other.node.kind.row().role, Role::Declares)
-                && other.node.name.is_like(&entry.node.name)
-            {
-                found = Some(at);
-            }
-        }
+        let found = program.iter().position(|other| {
+            other.node.kind.row().role == Role::Declares && other.node.name == entry.node.name
+        });
         self.by_role(entry, found)
     }
 }

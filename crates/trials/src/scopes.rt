@@ -114,25 +114,20 @@ static FLATS: [Case; 4] = [
 fn misses<L: Language>(case: &Case) -> Result<usize, TextFault> {
     let mut row = [Entry::UNUSED; 1024];
     let count = read::<ByRoot>(case.text, &mut row)?;
-    let program = &row[0..count];
-    let mut missed = 0usize;
-    for (at, reach) in case.reaches {
-        if L::find(program, *at) != *reach {
-            missed = missed.saturating_add(1);
-        }
-        if ByRoot::find(program, *at) != *reach {
-            missed = missed.saturating_add(1);
-        }
-    }
+    let program = &row[..count];
+    let missed = case
+        .reaches
+        .iter()
+        .filter(|(at, reach)| {
+            L::find(program, *at) != *reach || ByRoot::find(program, *at) != *reach
+        })
+        .count();
     Ok(missed)
 }
 
 fn all_found<L: Language>(rt: &impl Abort, cases: &[Case]) {
     for case in cases {
-        match misses::<L>(case) {
-            Ok(missed) => assert_eq!(rt; missed, 0),
-            Err(fault) => assert_eq!(rt; fault.number(), 0),
-        }
+        assert_eq!(rt; misses::<L>(case), Ok(0));
     }
 }
 
@@ -156,15 +151,12 @@ fn flats(rt: HostRuntime) {
 fn all_at_once(rt: HostRuntime) {
     let mut row = [Entry::UNUSED; 1024];
     let text = b"card\t2\ndef\ta\nnum\t1\nout\nref\ta\n";
-    match read::<ByRoot>(text, &mut row) {
-        Ok(count) => assert_eq!(rt; count, 5),
-        Err(fault) => assert_eq!(rt; fault.number(), 0),
-    }
+    assert_eq!(rt; read::<ByRoot>(text, &mut row), Ok(5));
     let mut reached = [Some(7); 6];
-    ByRoot::find_all(&row[0..5], &mut reached);
+    ByRoot::find_all(&row[..5], &mut reached);
     assert_eq!(rt; reached, [None, Some(1), None, None, Some(1), Some(7)]);
     let mut few = [Some(7); 2];
-    ByRoot::find_all(&row[0..5], &mut few);
+    ByRoot::find_all(&row[..5], &mut few);
     assert_eq!(rt; few, [None, Some(1)]);
 }
 

@@ -1,4 +1,5 @@
 // Writing at the edges of a buffer, and back again.
+use crate::refused::{Refused, heard};
 use crate::texts::repeated;
 use model::faults::TextFault;
 use model::grammar::ByRoot;
@@ -7,18 +8,11 @@ use script::reader::{read, read_draft};
 use script::writer::write;
 use std::test::Fail;
 
-#[derive(Clone, Copy, PartialEq, Eq, Debug)]
-enum Outcome {
-    Same,
-    Differs,
-    Refused(u8, usize),
-}
-
 // Whether a script comes back.
 fn write_back(text: &[u8], row: &mut [Entry], buffer: &mut [u8]) -> Result<bool, TextFault> {
     let count = read::<ByRoot>(text, row)?;
-    let length = write(&row[0..count], buffer)?;
-    Ok(&buffer[0..length] == text)
+    let length = write(&row[..count], buffer)?;
+    Ok(&buffer[..length] == text)
 }
 
 // Whether a draft is written as that script.
@@ -29,16 +23,8 @@ fn write_program(
     buffer: &mut [u8],
 ) -> Result<bool, TextFault> {
     let count = read_draft::<ByRoot>(draft, row)?;
-    let length = write(&row[0..count], buffer)?;
-    Ok(&buffer[0..length] == script)
-}
-
-fn heard(answer: Result<bool, TextFault>) -> Outcome {
-    match answer {
-        Ok(true) => Outcome::Same,
-        Ok(false) => Outcome::Differs,
-        Err(fault) => Outcome::Refused(fault.number(), fault.place()),
-    }
+    let length = write(&row[..count], buffer)?;
+    Ok(&buffer[..length] == script)
 }
 
 const TEXT: &[u8] = b"flat\t2\nslot\ta'65535\nemit\nnum\t2147483647\n";
@@ -50,16 +36,13 @@ fn buffers(rt: HostRuntime) -> Result<(), Fail> {
     let mut short = [7u8; 39];
     assert_eq!(rt;
         heard(write_back(TEXT, &mut row, &mut short)),
-        Outcome::Refused(13, 40)
+        Err(Refused(13, 40))
     );
     assert_eq!(rt; short, [7u8; 39]);
     let mut exact = [7u8; 40];
-    assert_eq!(rt;
-        heard(write_back(TEXT, &mut row, &mut exact)),
-        Outcome::Same
-    );
+    assert_eq!(rt; heard(write_back(TEXT, &mut row, &mut exact)), Ok(true));
     let mut long = [7u8; 42];
-    assert_eq!(rt; heard(write_back(TEXT, &mut row, &mut long)), Outcome::Same);
+    assert_eq!(rt; heard(write_back(TEXT, &mut row, &mut long)), Ok(true));
     assert_eq!(rt; long[39], 10);
     assert_eq!(rt; long[40], 7);
     assert_eq!(rt; long[41], 7);
@@ -75,7 +58,7 @@ fn origins_are_not_written(rt: HostRuntime) -> Result<(), Fail> {
     let script = b"flat\t1\nslot\ta\n";
     assert_eq!(rt;
         heard(write_program(draft, script, &mut row, &mut buffer)),
-        Outcome::Same
+        Ok(true)
     );
     Ok(())
 }
@@ -86,16 +69,8 @@ fn largest(rt: HostRuntime) -> Result<(), Fail> {
     let text = repeated(heap, b"flat\t1023\n", b"label\tabcdefgh'65535\n", 1023, b"")?;
     let mut row = vec![in heap; Entry::UNUSED; 1025]?;
     let mut buffer = vec![in heap; 0u8; 32768]?;
-    assert_eq!(rt;
-        heard(write_back(&text, &mut row, &mut buffer)),
-        Outcome::Same
-    );
-    match write(&row, &mut buffer) {
-        Ok(_) => Err(Fail::new("1,025 nodes are no program")),
-        Err(fault) => {
-            assert_eq!(rt; fault.number(), 5);
-            assert_eq!(rt; fault.place(), 1024);
-            Ok(())
-        }
-    }
+    assert_eq!(rt; heard(write_back(&text, &mut row, &mut buffer)), Ok(true));
+    // 1,025 nodes are no program
+    assert_eq!(rt; heard(write(&row, &mut buffer)), Err(Refused(5, 1024)));
+    Ok(())
 }

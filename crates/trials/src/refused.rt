@@ -1,0 +1,15 @@
+// What is heard of a call: its answer, or the number and place of its refusal.
+use model::faults::TextFault;
+
+#[derive(Clone, Copy, PartialEq, Eq, Debug)]
+pub struct Refused(pub u8, pub usize);
+
+impl From<TextFault> for Refused {
+    fn from(fault: TextFault) -> Refused {
+        Refused(fault.number(), fault.place())
+    }
+}
+
+pub fn heard<T>(answer: Result<T, TextFault>) -> Result<T, Refused> {
+    Ok(answer?)
+}
