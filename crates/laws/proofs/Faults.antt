@@ -3,6 +3,7 @@ use Rattle.std.proofs.Common.{◌≡◌, ℕ, zero, suc, Bool, true, false, cond
 use Prim.Native.String.{String}
 use Rattle.std.specs.List.{AllByRecursion as All}
 use Rattle.std.proofs.lemmas.Bool.{false≢true, true≢false, eqb-true, eq-eqb, and_right, or_from, or_left, not_from_true}
+use Rattle.std.proofs.Math.ListN.{get_or-map}
 use Rattle.model.specs.declared.kinds.Kind.{Kind}
 use Rattle.model.specs.declared.kinds.Kind.TheVariants.{Card}
 use Rattle.model.specs.declared.kinds.Role.{Role}
@@ -32,11 +33,6 @@ use Rattle.laws.proofs.Planning.{NamedFrom, Sourced, class_by, draft_kinds, kind
 -- stands for a planned node where there is none
 abbrev pub no_node : Planned
 no_node = plain Card
-
-pub map_at : {A B : Type 0} (f : A → B) (xs : List A) (i : ℕ) (d : A) → get_or (map f xs) i (f d) ≡ f (get_or xs i d)
-map_at f [] i d = refl
-map_at f (x ∷ xs) zero d = refl
-map_at f (x ∷ xs) (suc i) d = map_at f xs i d
 
 -- a group's names are spelled with one stem
 abbrev pub StemmedAs : (ℕ → String) → Naming → Type 0
@@ -89,7 +85,7 @@ module _ (s : Source) (xs : List Planned) where
   kinds_are = pre_shape (nodes spelt) ∙ kinds_planned s.program xs
 
   pub kind_is : (i : ℕ) → get_or (pre spelt_shape) i Card ≡ (get_or xs i no_node).kind
-  kind_is i = ap (λ ks. get_or ks i Card) kinds_are ∙ map_at (λ m. m.kind) xs i no_node
+  kind_is i = ap (λ ks. get_or ks i Card) kinds_are ∙ get_or-map (λ m. m.kind) xs i no_node
 
   -- each reference of inner class finds it among the declarations that it sees
   abbrev pub Found : (Shape → List (List ℕ)) → Type 0

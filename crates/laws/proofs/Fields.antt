@@ -1,6 +1,7 @@
 -- The fields of a line, in three parts: name, number, origin.
 use Rattle.std.proofs.Common.{◌≡◌, ℕ, Bool, true, false, cond, ◌&&◌, eqb, List, [], ◌∷◌, ◌++◌, Some, None, decimal, Option, sym, refl, ap, ◌∙◌, subst, arith}
 use Rattle.std.proofs.lemmas.Bool.{cond-true, cond-false, and_parts, le-leb, leb-true, eq-eqb, eqb-true}
+use Rattle.std.proofs.lemmas.Option.{none-some, cond_some}
 use Rattle.model.specs.declared.kinds.Kind.{Kind}
 use Rattle.model.specs.declared.nodes.Name.{Name}
 use Rattle.model.specs.declared.kinds.Role.{Role}
@@ -13,7 +14,7 @@ use Rattle.model.specs.Kinds.{row, role_named, has_name}
 use Rattle.model.specs.Names.{no_name}
 use Rattle.model.specs.Fields.{Form, plain, draft, Wanted, a_name, a_number, an_origin, the_name, the_number, the_origin, wanted, read_field, read_fields, bare, name_field, number_field, origin_field, write_name, write_origin}
 use Rattle.model.specs.Fitting.{name_fits, number_fits, origin_fits}
-use Rattle.laws.proofs.Pieces.{Over, went, kept, none_some}
+use Rattle.laws.proofs.Pieces.{Over, went}
 use Rattle.laws.proofs.Numbers.{number_written, number_read, over_decimal}
 use Rattle.laws.proofs.NamesRead.{alike_same, same_alike, name_written, name_read}
 use Rattle.laws.proofs.KindTests.{SmallMost, most_small}
@@ -59,7 +60,7 @@ is_empty (c ∷ cs) h = let z : ◌≡◌ {A = ℕ} 0 1 = cc in absurd (omega ar
 
 outer_read : (c : ℕ) (cs : List ℕ) (o : Origin) → cond (eqb c 111 && empty cs) (Some Outer) None ≡ Some o → Originated (c ∷ cs) o
 outer_read c cs o h =
-    let k = kept (eqb c 111 && empty cs) Outer o h in
+    let k = cond_some (eqb c 111 && empty cs) Outer o h in
     let p = and_parts (eqb c 111) (empty cs) k.0 in
     record {
       written = ap (λ (x : ℕ). x ∷ cs) (eqb-true c 111 p.0) ∙ ap (λ (x : List ℕ). 111 ∷ x) (is_empty cs p.1) ∙ ap write_origin k.1;
@@ -67,7 +68,7 @@ outer_read c cs o h =
     }
 
 pub origin_read : (f : List ℕ) (o : Origin) → origin_field f ≡ Some o → Originated f o
-origin_read [] o h = absurd (none_some o h)
+origin_read [] o h = absurd (none-some o h)
 origin_read (c ∷ cs) o h = go (eqb c 115) refl (eqb c 112) refl
   where
     go : (t : Bool) → eqb c 115 ≡ t → (u : Bool) → eqb c 112 ≡ u → Originated (c ∷ cs) o
@@ -125,8 +126,8 @@ with_origin n o = record { node = n.node; origin = o }
 
 fields_append : (ws vs : List Wanted) (fs gs : List (List ℕ)) (n m : Entry) → read_fields ws fs n ≡ Some m → read_fields (ws ++ vs) (fs ++ gs) n ≡ read_fields vs gs m
 fields_append [] vs [] gs n m h = let e : n ≡ m = cc in ap (read_fields vs gs) e
-fields_append [] vs (f ∷ fs) gs n m h = absurd (none_some m h)
-fields_append (w ∷ ws) vs [] gs n m h = absurd (none_some m h)
+fields_append [] vs (f ∷ fs) gs n m h = absurd (none-some m h)
+fields_append (w ∷ ws) vs [] gs n m h = absurd (none-some m h)
 fields_append (w ∷ ws) vs (f ∷ fs) gs n m h =
     let p = went (read_field w f n) (λ x. read_fields ws fs x) m h in
     ap (λ (o : Option Entry). if_some o (λ x. read_fields (ws ++ vs) (fs ++ gs) x)) p.was ∙ fields_append ws vs fs gs p.value m p.gave
@@ -141,7 +142,7 @@ record Parted (ws vs : List Wanted) (fs : List (List ℕ)) (n m : Entry) : Type 
 
 parted : (ws vs : List Wanted) (fs : List (List ℕ)) (n m : Entry) → read_fields (ws ++ vs) fs n ≡ Some m → Parted ws vs fs n m
 parted [] vs fs n m h = record { front = []; rest = fs; middle = n; are = refl; first = refl; then = h }
-parted (w ∷ ws) vs [] n m h = absurd (none_some m h)
+parted (w ∷ ws) vs [] n m h = absurd (none-some m h)
 parted (w ∷ ws) vs (f ∷ fs) n m h =
     let p = went (read_field w f n) (λ x. read_fields (ws ++ vs) fs x) m h in
     let q = parted ws vs fs p.value m p.gave in
@@ -156,7 +157,7 @@ parted (w ∷ ws) vs (f ∷ fs) n m h =
 
 none_wanted : (fs : List (List ℕ)) (n m : Entry) → read_fields [] fs n ≡ Some m → (fs ≡ []) × (n ≡ m)
 none_wanted [] n m h = (refl, cc)
-none_wanted (f ∷ fs) n m h = absurd (none_some m h)
+none_wanted (f ∷ fs) n m h = absurd (none-some m h)
 
 record One (w : Wanted) (fs : List (List ℕ)) (n m : Entry) : Type 0 where
   field : List ℕ
@@ -164,7 +165,7 @@ record One (w : Wanted) (fs : List (List ℕ)) (n m : Entry) : Type 0 where
   put : read_field w field n ≡ Some m
 
 one_wanted : (w : Wanted) (fs : List (List ℕ)) (n m : Entry) → read_fields (w ∷ []) fs n ≡ Some m → One w fs n m
-one_wanted w [] n m h = absurd (none_some m h)
+one_wanted w [] n m h = absurd (none-some m h)
 one_wanted w (f ∷ fs) n m h =
     let p = went (read_field w f n) (λ x. read_fields [] fs x) m h in
     let q = none_wanted fs p.value m p.gave in

@@ -3,12 +3,13 @@ use Rattle.std.proofs.Common.{◌≡◌, ℕ, ◌+◌, ◌<◌, ◌≤◌, Bool,
 use Rattle.std.specs.Str.{bytes_eq}
 use Rattle.std.proofs.lemmas.Slice.Eq.{bytes_eq-Decides}
 use Rattle.std.proofs.lemmas.Bool.{leb-true, ltb-true, false≢true}
+use Rattle.std.proofs.lemmas.Option.{none-some}
 use Rattle.model.specs.declared.kinds.Kind.{Kind}
 use Rattle.model.specs.Lists.{first_with}
 use Rattle.model.specs.Kinds.{row, kinds, has_name, is}
 use Rattle.model.specs.Fields.{Form, plain, draft, kind_of}
 use Rattle.model.proofs.KindTables.{every_kind, is_same}
-use Rattle.laws.proofs.Pieces.{Over, over, over_all, none_some}
+use Rattle.laws.proofs.Pieces.{Over, over, over_all}
 
 -- how many bytes a number of at most `most` takes, with the tab before it
 abbrev pub number_width : Option ℕ → ℕ
@@ -72,7 +73,7 @@ found_at t j k rest true e more h = let w : j ≡ k = cc in ap t (sym w) ∙ e
 found_at t j k rest false e more h = more h
 
 found : (t : Kind → Bool) (ks : List Kind) (k : Kind) → first_with t ks ≡ Some k → t k ≡ true
-found t [] k h = absurd (none_some k h)
+found t [] k h = absurd (none-some k h)
 found t (j ∷ js) k h = found_at t j k (first_with t js) (t j) refl (found t js k) h
 
 -- the word of a kind that is found

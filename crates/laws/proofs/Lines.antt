@@ -3,6 +3,7 @@ use Rattle.std.proofs.Common.{◌≡◌, ℕ, ◌+◌, ◌≤◌, Bool, true, fa
 use Rattle.std.specs.List.{AllByRecursion as All}
 use Rattle.std.proofs.ByRecursion.{All-append}
 use Rattle.std.proofs.lemmas.Bool.{and_parts, and_from, leb-true, ne_eqb, eqb-false}
+use Rattle.std.proofs.lemmas.Option.{none-some}
 use Rattle.model.specs.declared.kinds.Kind.{Kind}
 use Rattle.model.specs.declared.nodes.Name.{Name}
 use Rattle.model.specs.declared.kinds.Role.{Role}
@@ -17,7 +18,7 @@ use Rattle.model.specs.Names.{root_of, nodes}
 use Rattle.model.specs.Fields.{Form, plain, draft, read_fields, wanted, bare, kind_of}
 use Rattle.model.specs.Reading.{TextLine, lines, of_fields, read_line, heading, ReadOut, with_entry, read_lines}
 use Rattle.model.specs.Fitting.{fits, name_fits, number_fits}
-use Rattle.laws.proofs.Pieces.{Over, Free, free_over, after_each, AllFree, pieces_joined, cut, line_of, lines_ended, end_of, unlines, went, none_some}
+use Rattle.laws.proofs.Pieces.{Over, Free, free_over, after_each, AllFree, pieces_joined, cut, line_of, lines_ended, end_of, unlines, went}
 use Rattle.laws.proofs.Numbers.{over_decimal}
 use Rattle.laws.proofs.NamesRead.{over_name}
 use Rattle.laws.proofs.KindTests.{SmallMost, most_small, word_over, word_is, word_read}
@@ -110,7 +111,7 @@ fields_line form bs w fs n e h =
 
 line_read_at : (form : Form) (bs : List ℕ) (t : Bool) (n : Entry) → read_line form (record { bytes = bs; ended = t }) ≡ Some n → LineRead form (record { bytes = bs; ended = t }) n
 line_read_at form bs true n h = let c = cut 9 bs in fields_line form bs c.first c.more n c.together (ap (of_fields form) (sym c.are) ∙ h)
-line_read_at form bs false n h = absurd (none_some n h)
+line_read_at form bs false n h = absurd (none-some n h)
 
 pub line_read : (form : Form) (l : TextLine) (n : Entry) → read_line form l ≡ Some n → LineRead form l n
 line_read form l n h = line_read_at form l.bytes l.ended n h

@@ -4,12 +4,13 @@ use Rattle.std.specs.Str.{bytes_eq}
 use Rattle.std.proofs.lemmas.Slice.Eq.{bytes_eq-Decides}
 use Rattle.std.proofs.ByRecursion.{All-append}
 use Rattle.std.proofs.lemmas.Bool.{cond-true, cond-false, and_parts, and_from, or_cases, or_parts, le-leb, leb-true, eq-eqb, ne_eqb, eqb-true, not-true, not-false}
+use Rattle.std.proofs.lemmas.Option.{none-some, cond_some}
 use Rattle.model.specs.declared.nodes.Name.{Name}
 use Rattle.model.specs.Lists.{any, between, if_some}
 use Rattle.model.specs.Names.{alike, padded, letters}
 use Rattle.model.specs.Fields.{small_letter, letter_or_digit, stem_form, named, written_mark, of_pieces, name_field, number_field, write_mark, write_name}
 use Rattle.model.specs.Fitting.{name_fits}
-use Rattle.laws.proofs.Pieces.{Over, Free, free_over, after_each, cut, pieces_joined, went, kept, none_some}
+use Rattle.laws.proofs.Pieces.{Over, Free, free_over, after_each, cut, pieces_joined, went}
 use Rattle.laws.proofs.Numbers.{number_written, number_read, over_decimal}
 
 same_bytes : (s : List ℕ) → bytes_eq s s ≡ true
@@ -122,7 +123,7 @@ pub record Named (f : List ℕ) (a : Name) : Type 0 where
 
 named_read : (s : List ℕ) (m : ℕ) (a : Name) → m ≤ 65535 → named s m ≡ Some a → Named (s ++ write_mark m) a
 named_read s m a l h =
-    let k = kept (stem_form s) (record { stem = padded s; mark = m }) a h in
+    let k = cond_some (stem_form s) (record { stem = padded s; mark = m }) a h in
     let e : record { stem = padded s; mark = m } ≡ a = k.1 in
     record {
       written = ap (λ (x : List ℕ). x ++ write_mark m) (sym (letters_padded s k.0)) ∙ ap write_name e;
@@ -133,7 +134,7 @@ mark_kept : (m n : ℕ) → cond (eqb m 0) None (Some m) ≡ Some n → (eqb n 0
 mark_kept m n h = go (eqb m 0) refl h
   where
     go : (t : Bool) → eqb m 0 ≡ t → cond t None (Some m) ≡ Some n → (eqb n 0 ≡ false) × (m ≡ n)
-    go true e k = absurd (none_some n k)
+    go true e k = absurd (none-some n k)
     go false e k = let w : m ≡ n = cc in (ap (λ (x : ℕ). eqb x 0) (sym w) ∙ e, w)
 
 mark_read : (f : List ℕ) (m : ℕ) → written_mark f ≡ Some m → (39 ∷ f ≡ write_mark m) × (m ≤ 65535)
@@ -160,7 +161,7 @@ name_read f a h = let c = cut 39 f in go c.first c.more c.together (ap of_pieces
         named_at f (s ++ write_mark w.value) a
         (e ∙ ap (λ (x : List ℕ). s ++ (39 ∷ x)) (append-nil m) ∙ ap (λ (x : List ℕ). s ++ x) r.0)
         (named_read s w.value a r.1 w.gave)
-    go s (m ∷ p ∷ ps) e k = absurd (none_some a k)
+    go s (m ∷ p ∷ ps) e k = absurd (none-some a k)
 
 over_mark : (m : ℕ) → m ≤ 65535 → Over 39 (write_mark m)
 over_mark m l = go (eqb m 0) refl

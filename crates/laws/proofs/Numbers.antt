@@ -4,8 +4,9 @@ use Rattle.std.specs.Str.{all_ascii_digits}
 use Rattle.std.proofs.lemmas.Fmt.{digits_decimal, digits_value-decimal, decimal_digit, decimal-digits_value, first_decimal, decimal_nonempty}
 use Rattle.std.proofs.lemmas.Str.Parse.{IsNumeralModel, tells_all_ascii_digits, numerals_by_fold}
 use Rattle.std.proofs.lemmas.Bool.{cases_lt, cond-true, and_parts, and_from, or_cases, or_left, le-leb, leb-true, ne_eqb, eqb-false, not-true, not_from_false}
+use Rattle.std.proofs.lemmas.Option.{cond_some}
 use Rattle.model.specs.Fields.{value_from, decimal_form, number_field}
-use Rattle.laws.proofs.Pieces.{Over, kept}
+use Rattle.laws.proofs.Pieces.{Over}
 
 pub own : IsNumeralModel (λ ds. all_ascii_digits ds ≡ true) (value_from 0)
 own = numerals_by_fold _ tells_all_ascii_digits value_from (search rules)
@@ -53,7 +54,7 @@ some_digit (c ∷ cs) h = (omega arith, (and_parts (all_ascii_digits (c ∷ cs))
 -- a number that is read was written so
 pub number_read : (most n : ℕ) (f : List ℕ) → most < 2 ^ 64 → number_field most f ≡ Some n → (f ≡ decimal n) × (n ≤ most)
 number_read most n f m h =
-    let k = kept (decimal_form f && leb (value_from 0 f) most) (value_from 0 f) n h in
+    let k = cond_some (decimal_form f && leb (value_from 0 f) most) (value_from 0 f) n h in
     let p = and_parts (decimal_form f) (leb (value_from 0 f) most) k.0 in
     let v : value_from 0 f ≤ most = leb-true (value_from 0 f) most p.1 in
     let e : value_from 0 f ≡ n = k.1 in

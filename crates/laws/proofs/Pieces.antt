@@ -1,7 +1,8 @@
 -- Cutting a list at a separator and putting it together again.
-use Rattle.std.proofs.Common.{◌≡◌, ℕ, ◌<◌, ◌≤◌, Bool, true, false, cond, ◌&&◌, eqb, leb, List, [], ◌∷◌, ◌++◌, Some, None, Option, sym, refl, ap, ◌∙◌, append_assoc, arith}
+use Rattle.std.proofs.Common.{◌≡◌, ℕ, ◌<◌, ◌≤◌, Bool, true, false, ◌&&◌, eqb, leb, List, [], ◌∷◌, ◌++◌, Some, None, Option, sym, refl, ap, ◌∙◌, append_assoc, arith}
 use Rattle.std.specs.List.{AllByRecursion as All}
 use Rattle.std.proofs.lemmas.Bool.{cond-true, cond-false, and_parts, leb-true, eq-eqb, ne_eqb, eqb-true}
+use Rattle.std.proofs.lemmas.Option.{none-some}
 use Rattle.model.specs.Lists.{if_some}
 use Rattle.model.specs.Fields.{joins, pieces}
 use Rattle.model.specs.Reading.{TextLine, longer, begins, lines}
@@ -113,18 +114,11 @@ unlines_lines (b ∷ bs) = unlines_begins b (lines bs) (eqb b 10) refl ∙ ap (�
 
 -- Options
 
-pub none_some : {A : Type 0} (y : A) → None ≡ Some y → ⊥
-none_some y e = let z : ◌≡◌ {A = ℕ} 0 1 = cc in omega arith
-
 pub record Went {A B : Type 0} (o : Option A) (f : A → Option B) (y : B) : Type 0 where
   pub value : A
   pub was : o ≡ Some value
   pub gave : f value ≡ Some y
 
 pub went : {A B : Type 0} (o : Option A) (f : A → Option B) (y : B) → if_some o f ≡ Some y → Went o f y
-went None f y e = absurd (none_some y e)
+went None f y e = absurd (none-some y e)
 went (Some x) f y e = record { value = x; was = refl; gave = e }
-
-pub kept : {A : Type 0} (b : Bool) (x y : A) → cond b (Some x) None ≡ Some y → (b ≡ true) × (x ≡ y)
-kept true x y e = (refl, cc)
-kept false x y e = absurd (none_some y e)

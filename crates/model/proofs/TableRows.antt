@@ -1,10 +1,10 @@
 -- The code's table of kinds shows the rules' rows: each kind's at its place, and a word's kind is found in it.
-use Rattle.std.proofs.Common.{◌≡◌, ℕ, ◌+◌, ◌-◌, ◌<◌, Bool, true, false, List, map, length, get_or, drop, Some, Option, sym, refl, ap, ◌∙◌, arith}
+use Rattle.std.proofs.Common.{◌≡◌, ℕ, ◌+◌, ◌-◌, ◌<◌, true, false, List, map, length, get_or, drop, Some, Option, sym, refl, ap, ◌∙◌, arith}
 use lib.ListN.{length-map}
 use Rattle.std.specs.Str.{bytes_eq}
 use Rattle.std.proofs.lemmas.Slice.Eq.{bytes_eq-Decides}
 use Rattle.std.proofs.lemmas.List.{get_or-map, drop_more}
-use Rattle.std.proofs.lemmas.Bool.{cond-true, cond-false, and_parts, leb-true}
+use Rattle.std.proofs.lemmas.Bool.{cond-true, cond-false, and_parts, leb-true, false_from_ne_true}
 use Rattle.model.specs.declared.kinds.Kind.{Kind}
 use Rattle.model.specs.declared.kinds.Kind.TheVariants.{Card}
 use Rattle.model.specs.declared.kinds.Children.{Children as CodeChildren}
@@ -65,11 +65,7 @@ row_matches xs i d w e b s =
 pub row_differs : (xs : List KindRow) (i : ℕ) (d : KindRow) (w : List ℕ) → map shown xs ≡ table → i < 25 → ((get_or xs i d).word.now ≡ w → ⊥) → kind_from w (i + 1) ≡ kind_from w i
 row_differs xs i d w e b s =
     let q : (get_or xs i d).word.now ≡ (row (get_or kinds i Card)).word = ap (λ (t : RowOf). t.row.word) (at_place xs i d e b) in
-    sym (found_later w i b (fails (bytes_eq w (row (get_or kinds i Card)).word) (λ h. s (q ∙ sym ((bytes_eq-Decides w (row (get_or kinds i Card)).word).0 h)))))
-  where
-    fails : (t : Bool) → (t ≡ true → ⊥) → t ≡ false
-    fails true f = absurd (f refl)
-    fails false f = refl
+    sym (found_later w i b (false_from_ne_true (bytes_eq w (row (get_or kinds i Card)).word) (λ h. s (q ∙ sym ((bytes_eq-Decides w (row (get_or kinds i Card)).word).0 h)))))
 
 -- What a shown row says of its kind's children
 

@@ -3,6 +3,7 @@ use Rattle.std.proofs.Common.{◌≡◌, ℕ, zero, suc, ◌<◌, Bool, true, fa
 use mathlib.Core.Path.{fun_ext}
 use Rattle.std.proofs.lemmas.Bool.{cases_Bool, cases_lt, both_ways, and_parts, and_left, cond-true}
 use Rattle.std.proofs.lemmas.List.{get_or_past, length-map, ext_get_or}
+use Rattle.std.proofs.lemmas.Option.{none-some, same_Some}
 use Rattle.model.specs.declared.nodes.Node.{Node}
 use Rattle.model.specs.declared.nodes.Origin.{Origin}
 use Rattle.model.specs.declared.nodes.Origin.TheVariants.{Copied, Private, Outer}
@@ -20,12 +21,11 @@ use Rattle.model.specs.Classes.{Source, by_origin, of_copied, reach_at, class_of
 use Rattle.model.specs.Checks.{unlike_free, copied_from_no_name, spelled_as, lowest_of, from_no_name, spelled_apart, outer_declared, lost, at_place, fault}
 use Rattle.model.specs.Repair.{Mended, mend, repair}
 use Rattle.model.specs.Rules.{Alike, Agree}
-use Rattle.laws.proofs.Pieces.{none_some}
 use Rattle.laws.proofs.NamesRead.{alike_same}
 use Rattle.laws.proofs.Forests.{same_shape}
 use Rattle.laws.proofs.Reaches.{same_kinds}
 use Rattle.promise.specs.Reaching.{aim, Reaching}
-use Rattle.promise.proofs.Lists.{SomeInj, any_count_at, first_is, first_some, first_same}
+use Rattle.promise.proofs.Lists.{any_count_at, first_is, first_some, first_same}
 use Rattle.promise.proofs.Reaches.{named_in, reaches_at}
 use Rattle.promise.proofs.Classes.{together_at, some_is, none_is, not_outer}
 use Rattle.promise.proofs.Respelling.{length_kinds}
@@ -211,13 +211,13 @@ module _ (order : Order) (s t : Source) (A : AlikeSources s t) (d e : Draft) (G 
       go i h r false o =
           let k = not_outer (class_at s d i) (sym (named_class s d i) ∙ h) o in
           let (x, f) = R.found i k in
-          absurd (none_some x (sym r ∙ R.reaches i ∙ cond-true (is_inner (class_at s d i)) _ _ k ∙ f))
+          absurd (none-some x (sym r ∙ R.reaches i ∙ cond-true (is_inner (class_at s d i)) _ _ k ∙ f))
 
   pub both_mended : BothMended (mend order s d) (mend order t e)
   both_mended = go (fault s sees cs d) (fault t sees' cs' e) fault_same
     where
       go : (a b : Option RepairFault) → a ≡ b → BothMended (elim a [ None ↦ Ok (repair sees cs (nodes d)) | Some f ↦ Err f ]) (elim b [ None ↦ Ok (repair sees' cs' (nodes e)) | Some f ↦ Err f ])
       go None None h = tt
-      go None (Some f) h = absurd (none_some f h)
-      go (Some f) None h = absurd (none_some f (sym h))
-      go (Some f) (Some g) h = SomeInj h
+      go None (Some f) h = absurd (none-some f h)
+      go (Some f) None h = absurd (none-some f (sym h))
+      go (Some f) (Some g) h = same_Some _ _ h

@@ -2,7 +2,7 @@
 use Rattle.std.proofs.Common.{◌≡◌, ℕ, zero, suc, ◌+◌, ◌≤◌, Bool, true, false, cond, not, ◌&&◌, eqb, List, [], ◌∷◌, length, get_or, is_some, Some, None, Option, sym, refl, ap, ◌∙◌, subst, ap₂, add-one, arith}
 use mathlib.Core.Path.{fun_ext}
 use Rattle.std.specs.Str.{bytes_eq}
-use Rattle.std.proofs.lemmas.Bool.{false≢true, true≢false, and_from, and_parts, and_right, and_left, cond-true, cond-false, cond_both}
+use Rattle.std.proofs.lemmas.Bool.{false≢true, true≢false, and_from, and_parts, and_right, and_left, cond-true, cond-false, cond_both, false_from_ne_true}
 use Rattle.std.proofs.lemmas.List.{get_or_past, length-map}
 use Rattle.std.proofs.ByRecursion.{All-from_get_or}
 use Rattle.std.proofs.lemmas.Slice.Eq.{bytes_eq-Decides}
@@ -23,7 +23,7 @@ use Rattle.promise.proofs.Lists.{length_keep, unused_least, eqb_sym, any_below, 
 use Rattle.promise.proofs.Classes.{declares_named, same_option, same_option_decides, some_is, together_at}
 use Rattle.promise.proofs.Respelling.{classed_same, respell_same, respell_at, respelled_at, has_turn, round_same}
 use Rattle.promise.proofs.Frame.{Role, plain, declares, refers, is_named, is_declares, Frame, Lawful, Names, named, peer, captured, captor, declared, class_count, taken, turns, turn, unsettled, Settles, within, Name as Spelling, any as below, reach as reach_in, leads as leads_in, fresh as FreshIn, respell as respell_in, round as round_in, OneSpelling as OneSpellingIn}
-use Rattle.promise.proofs.FrameTests.{from_false, any_some, any_none, count_le}
+use Rattle.promise.proofs.FrameTests.{any_some, any_none, count_le}
 
 abbrev pub named_as : Option Class → Bool → Role
 named_as None b = plain
@@ -93,7 +93,7 @@ module _ (sees : ℕ → List ℕ) (cs : List (Option Class)) (p₀ : List Node)
       ∙ ap (within (λ d. peer F d e && not (peer F i e))) (reach_is q i))
 
   none_captures : (rs : List (Option Class)) (e : ℕ) → get_or cs e None ≡ None → captures cs rs e ≡ false
-  none_captures rs e h = from_false _ λ a.
+  none_captures rs e h = false_from_ne_true _ λ a.
       let (k, _, _, t) = any_count (λ i. together (get_or cs e None) (get_or rs i None) && not (together (get_or cs e None) (get_or cs i None))) 0 (length cs) a in
       false≢true (sym (ap (λ x. together x (get_or rs k None)) h) ∙ (and_parts _ _ t).0)
 

@@ -1,9 +1,9 @@
 -- Over a frame: where no class is a captor every name reaches its own class, and it comes to that within as many rounds as classes have a declaration.
 use Rattle.std.proofs.Common.{◌≡◌, ℕ, zero, suc, ◌<◌, ◌≤◌, Bool, true, false, not, ◌&&◌, ◌||◌, Some, sym, refl, ap, ◌∙◌, ⊎_elim, arith}
-use Rattle.std.proofs.lemmas.Bool.{cases_Bool, both_ways, and_from, and_parts, and_right, or_cases, or_right, or_parts, not-true, not_from_false, not_from_true}
+use Rattle.std.proofs.lemmas.Bool.{cases_Bool, both_ways, and_from, and_parts, and_right, or_cases, or_right, or_parts, not-true, not_from_false, not_from_true, false_from_ne_true}
 use Rattle.std.proofs.ByRecursion.{All-weaker}
 use Rattle.promise.proofs.Frame.{any, count, is_declares, Names, Frame, Lawful, named, peer, reach, captor, leads, declared, turn, round, unsettled, class_count, Settles, first, home, alike, is_named, declares, OneSpelling, Alone}
-use Rattle.promise.proofs.FrameTests.{any_some, any_at, from_false, count_le, count_lt, first_same}
+use Rattle.promise.proofs.FrameTests.{any_some, any_at, count_le, count_lt, first_same}
 use Rattle.promise.proofs.FrameTurns.{plain_from, alike_at, peers, peer_at, in_range, reached, capture, capture_at, alone_free, turn_parts, alone_turns, alone_round}
 
 module _ {S C : Type 0} (F : Frame S C) (L : Lawful F) where
@@ -61,7 +61,7 @@ module _ {S C : Type 0} (F : Frame S C) (L : Lawful F) where
     unfolding left
     is_left e t =
         let u = turn_parts F L nm e t in
-        and_from _ _ (and_from _ _ u.0 (captor_declared nm e u.2)) (not_from_false _ (from_false _ (λ d. both_ways _ (alone_free F L nm e (a e d)) u.2)))
+        and_from _ _ (and_from _ _ u.0 (captor_declared nm e u.2)) (not_from_false _ (false_from_ne_true _ (λ d. both_ways _ (alone_free F L nm e (a e d)) u.2)))
 
     abbrev next : ℕ → Bool
     next e = D e || turn F nm e
@@ -80,7 +80,7 @@ module _ {S C : Type 0} (F : Frame S C) (L : Lawful F) where
         (is_left e t)
 
   go_on : (f : ℕ) (nm : Names S) (D : ℕ → Bool) → ((e : ℕ) → D e ≡ true → Alone F nm e) → count (left D) F.size ≤ f → (n : ℕ) × (n ≤ f) × Settles F nm n
-  go_on zero nm D a l = (0, omega arith, from_false _ (λ h. absurd (omega (arith, fewer nm D a h))))
+  go_on zero nm D a l = (0, omega arith, false_from_ne_true _ (λ h. absurd (omega (arith, fewer nm D a h))))
   go_on (suc f) nm D a l =
       ⊎_elim
       (λ h.

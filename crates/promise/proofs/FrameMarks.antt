@@ -1,9 +1,9 @@
 -- Over a frame: a fresh mark is below the number of entries.
 use Rattle.std.proofs.Common.{◌≡◌, ℕ, zero, suc, ◌+◌, ◌-◌, ◌<◌, ◌≤◌, Bool, true, not, ◌&&◌, eqb, sym, refl, ap, ◌∙◌, subst, ⊎_elim, arith}
 use Rattle.std.specs.List.{AllByRecursion as All}
-use Rattle.std.proofs.lemmas.Bool.{cases_Bool, cases_eq, cases_lt, both_ways, and_from, and_parts, ne_eqb, eq-eqb, not-true, not_from_false, not_from_true, cond_both}
+use Rattle.std.proofs.lemmas.Bool.{cases_Bool, cases_eq, cases_lt, both_ways, and_from, and_parts, ne_eqb, eq-eqb, not-true, not_from_false, not_from_true, cond_both, false_from_ne_true}
 use Rattle.promise.proofs.Frame.{plain, declares, is_named, is_declares, Names, Frame, Lawful, named, peer, alike, reach, leads, declared, fresh, respell, turn, turns, OneSpelling}
-use Rattle.promise.proofs.FrameTests.{any_some, any_at, from_false, count_all, count_lt, pigeons, first_passes}
+use Rattle.promise.proofs.FrameTests.{any_some, any_at, count_all, count_lt, pigeons, first_passes}
 use Rattle.promise.proofs.FrameTurns.{declares_from, peers, peer_at, in_range, reached, capture, fresh_mark, taken_by, respelled, turn_parts, one_turns}
 
 module _ {S C : Type 0} (F : Frame S C) (L : Lawful F) where
@@ -56,7 +56,7 @@ module _ {S C : Type 0} (F : Frame S C) (L : Lawful F) where
       let (a, b, ne, na, nb, q) = shared nm one e t in
       let p : ℕ → Bool = λ j. named F j && not (eqb j a) in
       let in_e = in_range F L e (turn_parts F L nm e t).1 in
-      let others = count_lt (named F) p F.size a (λ j _ h. (and_parts (named F j) _ h).0) (in_range F L a na) (from_false _ (λ h. both_ways (not (eqb a a)) (not_from_true _ (eq-eqb a a refl)) (and_parts (named F a) _ h).1)) na in
+      let others = count_lt (named F) p F.size a (λ j _ h. (and_parts (named F j) _ h).0) (in_range F L a na) (false_from_ne_true _ (λ h. both_ways (not (eqb a a)) (not_from_true _ (eq-eqb a a refl)) (and_parts (named F a) _ h).1)) na in
       let names = count_lt (λ _. true) (named F) F.size 0 (λ _ _ _. refl) (omega arith) (ap is_named z) refl in
       let all = count_all (λ _. true) F.size in
       let keeps : (j : ℕ) → named F j ≡ true → (i : ℕ) × (i < F.size) × (p i ≡ true) × ((m i).mark ≡ (m j).mark) = λ j nj.

@@ -1,9 +1,9 @@
 -- Tests of the numbers below n, how many pass, the pigeonhole, and the first of a list that passes.
 use Rattle.std.proofs.Common.{◌≡◌, ℕ, zero, suc, ◌+◌, ◌<◌, ◌≤◌, Bool, true, false, cond, not, ◌&&◌, eqb, List, [], ◌∷◌, Some, sym, refl, ap, ◌∙◌, subst, ⊎_elim, arith}
 use Rattle.std.specs.List.{AllByRecursion as All}
-use Rattle.std.proofs.lemmas.Bool.{cases_Bool, cases_eq, both_ways, false≢true, and_from, and_parts, ne_eqb, not_from_false, not_from_true, eq-eqb, cond-true, cond-false}
+use Rattle.std.proofs.lemmas.Bool.{cases_Bool, cases_eq, both_ways, false≢true, and_from, and_parts, ne_eqb, not_from_false, not_from_true, eq-eqb, cond-true, cond-false, false_from_ne_true}
 use Rattle.std.proofs.lemmas.Bool.Decides.{Decides-below_or}
-use Rattle.laws.proofs.Pieces.{none_some}
+use Rattle.std.proofs.lemmas.Option.{none-some}
 use Rattle.promise.proofs.Frame.{any, count, first, least}
 
 pub any_some : (p : ℕ → Bool) (n : ℕ) → any p n ≡ true → (k : ℕ) × (k < n) × (p k ≡ true)
@@ -14,12 +14,8 @@ pub any_at : (p : ℕ → Bool) (n k : ℕ) → k < n → p k ≡ true → any p
 unfolding any
 any_at p n k l h = (Decides-below_or p (λ k. p k ≡ true) (any p) (λ k. (λ h. h, λ h. h)) refl (λ _. refl) n).1 (k, l, h)
 
-pub from_false : (b : Bool) → (b ≡ true → ⊥) → b ≡ false
-from_false true h = absurd (h refl)
-from_false false h = refl
-
 pub any_none : (p : ℕ → Bool) (n k : ℕ) → any p n ≡ false → k < n → p k ≡ false
-any_none p n k e l = from_false (p k) (λ h. both_ways _ e (any_at p n k l h))
+any_none p n k e l = false_from_ne_true (p k) (λ h. both_ways _ e (any_at p n k l h))
 
 step_le : (a b : Bool) (x y : ℕ) → (a ≡ true → b ≡ true) → x ≤ y → cond a (x + 1) x ≤ cond b (y + 1) y
 step_le true true x y h l = omega arith
@@ -69,7 +65,7 @@ pigeons n f (suc k) p h =
     let c = pigeons n f k q (λ m a b.
     let (j, lj, pj, fj) = h m a (omega arith) in
     (j, lj, and_from (p j) _ pj (not_from_false _ (ne_eqb j i (λ e. absurd (omega (arith, ap f e))))), fj)) in
-    omega (arith, count_lt p q n i (λ j _ t. (and_parts (p j) _ t).0) l (from_false (q i) (λ t. both_ways (not (eqb i i)) (refused i) (and_parts (p i) _ t).1)) pi)
+    omega (arith, count_lt p q n i (λ j _ t. (and_parts (p j) _ t).0) l (false_from_ne_true (q i) (λ t. both_ways (not (eqb i i)) (refused i) (and_parts (p i) _ t).1)) pi)
   where
     refused : (i : ℕ) → not (eqb i i) ≡ false
     refused i = not_from_true (eqb i i) (eq-eqb i i refl)
@@ -104,7 +100,7 @@ least_stuck p (suc f) m h j a b =
 
 pub first_passes : (p : ℕ → Bool) (P : ℕ → Type 0) (xs : List ℕ) (d : ℕ) → All P xs → first p xs ≡ Some d → (p d ≡ true) × P d
 unfolding first
-first_passes p P [] d a e = absurd (none_some d e)
+first_passes p P [] d a e = absurd (none-some d e)
 first_passes p P (x ∷ xs) d a e =
     ⊎_elim
     (λ t. let same : x ≡ d = cc (cond-true (p x) (Some x) (first p xs) t) in (ap p (sym same) ∙ t, subst P same a.0))
@@ -119,5 +115,5 @@ first_same p q (x ∷ xs) a h =
     ⊎_elim
     (λ t. let e = cond-true (p x) (Some x) (first p xs) t in e ∙ sym (cond-true (q x) (Some x) (first q xs) (h x e)))
     (λ t. let e = cond-false (p x) (Some x) (first p xs) t in
-    e ∙ first_same p q xs a.1 (λ d k. h d (e ∙ k)) ∙ sym (cond-false (q x) (Some x) (first q xs) (from_false (q x) (λ u. both_ways (p x) t (a.0 u)))))
+    e ∙ first_same p q xs a.1 (λ d k. h d (e ∙ k)) ∙ sym (cond-false (q x) (Some x) (first q xs) (false_from_ne_true (q x) (λ u. both_ways (p x) t (a.0 u)))))
     (cases_Bool (p x))

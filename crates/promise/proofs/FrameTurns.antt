@@ -1,9 +1,9 @@
 -- Over a frame: what one respelling and one round keep, and that a respelled class stays alone.
 use Rattle.std.proofs.Common.{◌≡◌, ℕ, zero, suc, ◌+◌, ◌<◌, ◌≤◌, Bool, true, false, not, ◌&&◌, eqb, ◌⊎◌, Some, None, Option, sym, refl, ap, ◌∙◌, subst, inl, inr, ⊎_elim, arith}
-use Rattle.std.proofs.lemmas.Bool.{cases_Bool, cases_eq, cases_lt, both_ways, false≢true, and_from, and_parts, eqb-true, eq-eqb, not-true, not_from_false, cond-true, cond-false, cond_both}
-use Rattle.laws.proofs.Pieces.{none_some}
+use Rattle.std.proofs.lemmas.Bool.{cases_Bool, cases_eq, cases_lt, both_ways, false≢true, and_from, and_parts, eqb-true, eq-eqb, not-true, not_from_false, cond-true, cond-false, cond_both, false_from_ne_true}
+use Rattle.std.proofs.lemmas.Option.{none-some}
 use Rattle.promise.proofs.Frame.{first, within, Role, plain, declares, refers, is_named, is_declares, Name, Names, Frame, Lawful, named, peer, alike, reach, captured, captor, leads, taken, fresh, respell, turn, turns, round, OneSpelling, Alone, Capture}
-use Rattle.promise.proofs.FrameTests.{any_some, any_at, from_false, count_all, pigeons, least_from, least_below, least_stuck, first_passes}
+use Rattle.promise.proofs.FrameTests.{any_some, any_at, count_all, pigeons, least_from, least_below, least_stuck, first_passes}
 
 pub declares_from : (r : Role) → is_declares r ≡ true → r ≡ declares
 declares_from plain h = absurd (false≢true h)
@@ -52,7 +52,7 @@ module _ {S C : Type 0} (F : Frame S C) (L : Lawful F) where
   seer_named p i d e = go (F.role i) refl
     where
       go : (r : Role) → F.role i ≡ r → is_named (F.role i) ≡ true
-      go plain q = absurd (none_some d (sym (ap (first p) (L.unseen i q)) ∙ e))
+      go plain q = absurd (none-some d (sym (ap (first p) (L.unseen i q)) ∙ e))
       go declares q = ap is_named q
       go refers q = ap is_named q
 
@@ -77,10 +77,10 @@ module _ {S C : Type 0} (F : Frame S C) (L : Lawful F) where
   unfolding captor captured
   capture_at nm e c =
       any_at (captured F nm e) F.size c.by (in_range c.by (reached nm c.by c.at c.reaches).by_name)
-      (rw c.reaches (and_from _ _ (peer_at c.at e c.its) (not_from_false _ (from_false _ (λ t. c.other (peers c.by e t))))))
+      (rw c.reaches (and_from _ _ (peer_at c.at e c.its) (not_from_false _ (false_from_ne_true _ (λ t. c.other (peers c.by e t))))))
 
   pub alone_free : (nm : Names S) (e : ℕ) → Alone F nm e → captor F nm e ≡ false
-  alone_free nm e a = from_false _ λ h.
+  alone_free nm e a = false_from_ne_true _ λ h.
       let c = capture nm e h in
       let r = reached nm c.by c.at c.reaches in
       c.other (a c.at c.by r.is_name r.by_name c.its (sym r.same))
@@ -96,7 +96,7 @@ module _ {S C : Type 0} (F : Frame S C) (L : Lawful F) where
   unfolding fresh
   fresh_mark nm s = (
     least_from (taken F nm s) F.size 1,
-    from_false _ (λ h. absurd (omega (
+    false_from_ne_true _ (λ h. absurd (omega (
       arith,
       count_all (named F) F.size,
       pigeons F.size (λ j. (nm j).mark) (F.size + 1) (named F) (λ m a b.

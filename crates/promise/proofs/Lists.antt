@@ -1,23 +1,20 @@
 -- Tests over lists of numbers, and the first that passes.
 use Rattle.std.proofs.Common.{◌≡◌, ℕ, zero, suc, ◌+◌, ◌<◌, ◌≤◌, Bool, true, false, cond, not, ◌&&◌, ◌||◌, eqb, List, [], ◌∷◌, map, length, get_or, Some, None, Option, sym, refl, ap, ◌∙◌, ap₂, ⊎_elim, add-one, arith}
-use Rattle.std.proofs.lemmas.Bool.{cond-true, cond_both, not_from_false, cases_eq, both_ways, false≢true, or_cases, or_left, or_right, eqb-true, eq-eqb, cond-false}
+use Rattle.std.proofs.lemmas.Bool.{cond-true, cond_both, not_from_false, cases_eq, both_ways, false≢true, or_cases, or_left, or_right, eqb-true, eq-eqb, cond-false, false_from_ne_true}
 use Rattle.std.proofs.lemmas.List.{get_or-map}
+use Rattle.std.proofs.lemmas.Option.{none-some, same_Some}
 use Rattle.laws.proofs.Reaches.{counting_at, length_counting}
 use Rattle.promise.proofs.Frame.{first, least, count, any as below}
-use Rattle.promise.proofs.FrameTests.{from_false, any_some, any_at, count_all, pigeons, least_stuck, least_from, least_below}
+use Rattle.promise.proofs.FrameTests.{any_some, any_at, count_all, pigeons, least_stuck, least_from, least_below}
 use Rattle.model.specs.Lists.{or_else, keep, any, first_with, counting, places}
 use Rattle.model.specs.Repair.{unused}
-use Rattle.laws.proofs.Pieces.{none_some}
 
 pub same_bool : (a b : Bool) → (a ≡ true → b ≡ true) → (b ≡ true → a ≡ true) → a ≡ b
 same_bool true b f g = sym (f refl)
-same_bool false b f g = sym (from_false b (λ h. false≢true (g h)))
+same_bool false b f g = sym (false_from_ne_true b (λ h. false≢true (g h)))
 
 pub eqb_sym : (a b : ℕ) → eqb a b ≡ eqb b a
 eqb_sym a b = same_bool _ _ (λ h. eq-eqb b a (sym (eqb-true a b h))) (λ h. eq-eqb a b (sym (eqb-true b a h)))
-
-pub SomeInj : {A : Type 0} {a b : A} → Some a ≡ Some b → a ≡ b
-SomeInj e = cc
 
 -- any
 pub any_count : (t : ℕ → Bool) (at n : ℕ) → any t (counting at n) ≡ true → (k : ℕ) × (at ≤ k) × (k < at + n) × (t k ≡ true)
@@ -116,11 +113,11 @@ first_same t u [] h = refl
 first_same t u (x ∷ xs) h = ap₂ (λ b m. cond b (Some x) m) (h x) (first_same t u xs h)
 
 pub first_is : (t : ℕ → Bool) (xs : List ℕ) (d : ℕ) → first_with t xs ≡ Some d → (t d ≡ true) × ((k : ℕ) × (k < length xs) × (get_or xs k 0 ≡ d))
-first_is t [] d e = absurd (none_some d e)
+first_is t [] d e = absurd (none-some d e)
 first_is t (x ∷ xs) d e = go (t x) refl (first_is t xs d) e
   where
     go : (b : Bool) → t x ≡ b → (first_with t xs ≡ Some d → (t d ≡ true) × ((k : ℕ) × (k < length xs) × (get_or xs k 0 ≡ d))) → cond b (Some x) (first_with t xs) ≡ Some d → (t d ≡ true) × ((k : ℕ) × (k < suc (length xs)) × (get_or (x ∷ xs) k 0 ≡ d))
-    go true q f e = (ap t (sym (SomeInj e)) ∙ q, (0, omega arith, SomeInj e))
+    go true q f e = (ap t (sym (same_Some _ _ e)) ∙ q, (0, omega arith, same_Some _ _ e))
     go false q f e = let (a, r) = f e in let (k, l, g) = r in (a, (suc k, omega arith, g))
 
 pub first_none : (t : ℕ → Bool) (xs : List ℕ) → first_with t xs ≡ None → any t xs ≡ false
@@ -128,7 +125,7 @@ first_none t [] e = refl
 first_none t (x ∷ xs) e = go (t x) refl (first_none t xs) e
   where
     go : (b : Bool) → t x ≡ b → (first_with t xs ≡ None → any t xs ≡ false) → cond b (Some x) (first_with t xs) ≡ None → (t x || any t xs) ≡ false
-    go true q f e = absurd (none_some x (sym e))
+    go true q f e = absurd (none-some x (sym e))
     go false q f e = ap (λ c. c || any t xs) q ∙ f e
 
 pub first_some : (t : ℕ → Bool) (xs : List ℕ) → any t xs ≡ true → (d : ℕ) × (first_with t xs ≡ Some d)
@@ -178,7 +175,7 @@ least_most p (suc k) m = let h = least_most p k (m + 1) in cond_both (p m) (leas
 least_free : (used : List ℕ) (p : ℕ → Bool) → ((m : ℕ) → any (eqb m) used ≡ p m) → p (least p (length used) 1) ≡ false
 least_free used p h =
     let k = length used in
-    from_false _ (λ t. absurd (omega (
+    false_from_ne_true _ (λ t. absurd (omega (
       arith,
       count_all (λ _. true) k,
       pigeons k (λ i. get_or used i 0) (k + 1) (λ _. true) (λ m a b.

@@ -1,7 +1,8 @@
 -- The checks give what the repair's laws ask for, so an accepted draft is mended.
 use Rattle.std.proofs.Common.{◌≡◌, ℕ, zero, suc, ◌<◌, ◌≤◌, Bool, true, false, cond, not, List, [], ◌∷◌, length, get_or, is_some, Some, None, Ok, Err, Option, Result, sym, refl, ap, ◌∙◌, subst, ⊎_elim, arith}
-use Rattle.std.proofs.lemmas.Bool.{cases_lt, both_ways, and_parts, and_left, and_cases, or_parts, not-false, not-true, cond-true, cond-false}
+use Rattle.std.proofs.lemmas.Bool.{cases_lt, both_ways, and_parts, and_left, and_cases, or_parts, not-false, not-true, cond-true, cond-false, false_from_ne_true}
 use Rattle.std.proofs.lemmas.List.{get_or_past, length-map}
+use Rattle.std.proofs.lemmas.Option.{none-some}
 use Rattle.model.specs.declared.nodes.Node.{Node}
 use Rattle.model.specs.declared.nodes.Origin.TheVariants.{Outer}
 use Rattle.model.specs.declared.faults.RepairFault.{RepairFault}
@@ -17,7 +18,6 @@ use Rattle.model.specs.Checks.{from_no_name, spelled_apart, spelled_as, outer_de
 use Rattle.model.specs.Repair.{Mended, repair, mend}
 use Rattle.model.specs.Rules.{kind_in, Visible}
 use Rattle.model.specs.Promise.{Serves, PastTen, Served, RefusedExactly}
-use Rattle.laws.proofs.Pieces.{none_some}
 use Rattle.laws.proofs.NamesRead.{alike_same}
 use Rattle.laws.proofs.RoundTrips.{length_nodes}
 use Rattle.laws.proofs.Forests.{same_shape}
@@ -29,7 +29,6 @@ use Rattle.promise.proofs.Results.{ok_inj, err_ok}
 use Rattle.promise.proofs.Classes.{together_is, together_at, together_some, some_is, outer_some, not_outer}
 use Rattle.promise.proofs.Respelling.{Same, same_trans, round_same, round_nameless, round_one, round_outer, by_visits, repairs_visit}
 use Rattle.promise.proofs.Rounds.{repair_ends_lem, settled_reach}
-use Rattle.promise.proofs.FrameTests.{from_false}
 
 -- Drafts
 pub draft_node : (d : Draft) (i : ℕ) → (entry_at d i).node ≡ node_at (nodes d) i
@@ -57,15 +56,15 @@ pub record Checked (s : Source) (sees : ℕ → List ℕ) (d : Draft) : Type 0 w
   pub twelve : (i : ℕ) → lost sees (classes s d) i ≡ false
 
 pub nowhere : (t : ℕ → Bool) (n : ℕ) → first_with t (counting 0 n) ≡ None → ((i : ℕ) → n ≤ i → t i ≡ false) → (i : ℕ) → t i ≡ false
-nowhere t n e past i = ⊎_elim (λ l. from_false _ (λ h. both_ways _ (first_none t (counting 0 n) e) (any_count_at t 0 n i (omega arith) (omega arith) h))) (past i) (cases_lt i n)
+nowhere t n e past i = ⊎_elim (λ l. false_from_ne_true _ (λ h. both_ways _ (first_none t (counting 0 n) e) (any_count_at t 0 n i (omega arith) (omega arith) h))) (past i) (cases_lt i n)
 
 next_none : (a b : Option RepairFault) → or_next a b ≡ None → (a ≡ None) × (b ≡ None)
 next_none None b h = (refl, h)
-next_none (Some f) b h = absurd (none_some f (sym h))
+next_none (Some f) b h = absurd (none-some f (sym h))
 
 place_none : (f : ℕ → RepairFault) (o : Option ℕ) → at_place f o ≡ None → o ≡ None
 place_none f None h = refl
-place_none f (Some i) h = absurd (none_some (f i) (sym h))
+place_none f (Some i) h = absurd (none-some (f i) (sym h))
 
 module _ (s : Source) (sees : ℕ → List ℕ) (d : Draft) where
   past_node : (i : ℕ) → length d ≤ i → entry_at d i ≡ record { node = blank; origin = Outer }
@@ -213,13 +212,13 @@ module _ (order : Order) (V : Visible order) (s : Source) (d : Draft) where
     shape_is = same_shape q p S.respelling.kinds S.respelling.numbers
 
     serve_eleven : (i : ℕ) → outer_declared (classes s d) d i ≡ false
-    serve_eleven i = from_false _ λ h.
+    serve_eleven i = false_from_ne_true _ λ h.
         let t = and_parts (kind_declares (entry_at d i).node.kind) _ h in
         let e = reaches_itself order V q i (ap kind_declares (same_kinds q p S.respelling.kinds i) ∙ ap (λ n. kind_declares n.kind) (sym (draft_node d i)) ∙ t.0) in
-        none_some i (sym (S.outer_free i t.1) ∙ e)
+        none-some i (sym (S.outer_free i t.1) ∙ e)
 
     serve_twelve : (i : ℕ) → lost sees (classes s d) i ≡ false
-    serve_twelve i = from_false _ λ h.
+    serve_twelve i = false_from_ne_true _ λ h.
         let t = and_parts (is_inner (cls i)) _ h in
         let (e, r, c) = S.others i t.0 in
         let (_, w) = first_is _ (sees i) e (ap (λ x. reach_by (order x) q i) (sym shape_is) ∙ r) in
@@ -228,7 +227,7 @@ module _ (order : Order) (V : Visible order) (s : Source) (d : Draft) where
 
   refuses : PastTen s d → (f : RepairFault) → fault s sees (classes s d) d ≡ Some f → (q : List Node) → Serves order s d q → ⊥
   refuses P f h q S =
-      none_some f (sym (no_next _ _ (no_place FromNoName (from_no_name s d) (λ i. P.nine i)) (no_next _ _ (no_place SpelledApart (spelled_apart s (classes s d) d) (λ i. P.ten i)) (no_next _ _ (no_place OuterDeclared (outer_declared (classes s d) d) (serve_eleven q S)) (no_place Lost (lost sees (classes s d)) (serve_twelve q S))))) ∙ h)
+      none-some f (sym (no_next _ _ (no_place FromNoName (from_no_name s d) (λ i. P.nine i)) (no_next _ _ (no_place SpelledApart (spelled_apart s (classes s d) d) (λ i. P.ten i)) (no_next _ _ (no_place OuterDeclared (outer_declared (classes s d) d) (serve_eleven q S)) (no_place Lost (lost sees (classes s d)) (serve_twelve q S))))) ∙ h)
     where
       no_next : (a b : Option RepairFault) → a ≡ None → b ≡ None → or_next a b ≡ None
       no_next a b e g = ap (λ x. or_next x b) e ∙ g

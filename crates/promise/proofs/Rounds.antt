@@ -1,6 +1,6 @@
 -- The laws of the rounds: a class is respelled once, the repair ends, and fresh marks are small.
 use Rattle.std.proofs.Common.{◌≡◌, ℕ, zero, suc, ◌+◌, ◌≤◌, Bool, true, false, cond, ◌&&◌, List, [], ◌∷◌, ◌++◌, length, get_or, is_some, Some, None, Option, sym, refl, ap, ◌∙◌, subst, ap₂, arith}
-use Rattle.std.proofs.lemmas.Bool.{both_ways, false≢true, and_parts, cond-true, cond-false}
+use Rattle.std.proofs.lemmas.Bool.{both_ways, false≢true, and_parts, cond-true, cond-false, false_from_ne_true}
 use Rattle.model.specs.declared.nodes.Node.{Node}
 use Rattle.model.specs.Lists.{keep, first_with, counting}
 use Rattle.model.specs.Names.{name_at}
@@ -17,7 +17,7 @@ use Rattle.promise.proofs.Classes.{same_option, together_is, together_at, togeth
 use Rattle.promise.proofs.Respelling.{Same, same_trans, classed_same, respell_same, has_turn, by_turns, by_visits, round_same, round_one}
 use Rattle.promise.proofs.DraftFrame.{frame, names, as_name, plain_none, named_is, turn_is, turns_is, captures_is, reach_is, unsettled_some, fresh_is, round_is, computed, class_count_is, lawful, one_frame}
 use Rattle.promise.proofs.Frame.{plain, Frame, turn, turns, leads as leads_in, declared, first, home as home_in, fresh as FreshIn, Alone as AloneIn}
-use Rattle.promise.proofs.FrameTests.{from_false, count_all}
+use Rattle.promise.proofs.FrameTests.{count_all}
 use Rattle.promise.proofs.FrameTurns.{turn_parts, alone_free, alone_turns, alone_round}
 use Rattle.promise.proofs.FrameEnds.{reach_home, settles}
 use Rattle.promise.proofs.FrameMarks.{fresh_small}
@@ -125,7 +125,7 @@ module _ (order : Order) (V : Visible order) (cs : List (Option Class)) (p : Lis
   pub settled_reach : (q : List Node) → Classed cs q → OneSpelling cs q → captors (order (shape p)) cs q ≡ [] → (i : ℕ) → reach_by (order (shape p)) q i ≡ home (order (shape p)) cs i
   settled_reach q g one e i =
       reach_is (order (shape p)) cs p q i
-      ∙ reach_home (frame (order (shape p)) cs p) (lawful order V cs p f) (names q) (one_frame order V cs p f q one) (from_false _ (λ u. unsettled_some (order (shape p)) cs p q g u e)) i
+      ∙ reach_home (frame (order (shape p)) cs p) (lawful order V cs p f) (names q) (one_frame order V cs p f q one) (false_from_ne_true _ (λ u. unsettled_some (order (shape p)) cs p q g u e)) i
       ∙ sym (home_is i)
 
 pub repair_ends_lem : RepairEnds

@@ -1,6 +1,7 @@
 -- A loaded book is true to names, and one that is stays so when a draft is accepted.
 use Rattle.std.proofs.Common.{◌≡◌, ℕ, true, ◌⊎◌, List, ◌∷◌, length, is_some, Some, None, Option, sym, refl, ap, ◌∙◌, subst, inl, inr, arith}
 use Rattle.std.proofs.lemmas.Bool.{cond-true, cond-false}
+use Rattle.std.proofs.lemmas.Option.{none-some, same_Some}
 use Rattle.model.specs.declared.nodes.Name.{Name}
 use Rattle.model.specs.declared.nodes.Node.{Node}
 use Rattle.model.specs.declared.nodes.Origin.{Origin}
@@ -17,10 +18,9 @@ use Rattle.model.specs.Stages.{Repaired, World}
 use Rattle.model.specs.Book.{Book, loaded, entered, Group, Came, from_script, from_group, from_outside, came_from, came}
 use Rattle.model.specs.Rules.{Visible}
 use Rattle.model.specs.Promise.{script_reach, now_reach, SameDeclaration, TrueToScript, TrueName, TrueNames}
-use Rattle.laws.proofs.Pieces.{none_some}
 use Rattle.laws.proofs.Reaches.{same_kinds, reaches_itself}
 use Rattle.promise.specs.Reaching.{Reaching}
-use Rattle.promise.proofs.Lists.{SomeInj, first_is}
+use Rattle.promise.proofs.Lists.{first_is}
 use Rattle.promise.proofs.Reaches.{named_in, reaches_at, reached_declares}
 use Rattle.promise.proofs.Classes.{together_is}
 use Rattle.promise.proofs.Mending.{Checked, draft_node, named_class}
@@ -65,8 +65,8 @@ record GroupKin (o e : Came) : Type 0 where
 -- what a true book says of a bound name, and of a free one
 module _ (w : World) (b : Book) where
   bound_name : (k e : ℕ) (o : Came) → now_reach w b k ≡ Some e → TrueName w b k o → ScriptKin w b o (came b e) ⊎ GroupKin o (came b e)
-  bound_name k e (from_outside a) r t = absurd (none_some e (sym t.0 ∙ r))
-  bound_name k e (from_group g) r t = let (x, rx, cx) = t in inr (record { group = g; name_is = refl; declaration_is = ap (came b) (SomeInj (sym r ∙ rx)) ∙ cx })
+  bound_name k e (from_outside a) r t = absurd (none-some e (sym t.0 ∙ r))
+  bound_name k e (from_group g) r t = let (x, rx, cx) = t in inr (record { group = g; name_is = refl; declaration_is = ap (came b) (same_Some _ _ (sym r ∙ rx)) ∙ cx })
   bound_name k e (from_script j) r t = inl (go (script_reach w b j) refl t.1)
     where
       kin : (d : ℕ) → script_reach w b j ≡ Some d → (o : Came) → came b e ≡ o → SameDeclaration w b d o → ScriptKin w b (from_script j) (came b e)
@@ -75,20 +75,20 @@ module _ (w : World) (b : Book) where
       kin d h (from_outside a) q c = absurd c
 
       go : (o : Option ℕ) → script_reach w b j ≡ o → TrueToScript w b k j o → ScriptKin w b (from_script j) (came b e)
-      go None h c = absurd (none_some e (sym c.0 ∙ r))
+      go None h c = absurd (none-some e (sym c.0 ∙ r))
       go (Some d) h c =
           let (x, rx, cx) = c in
-          kin d h (came b e) refl (subst (λ y. SameDeclaration w b d (came b y)) (SomeInj (sym rx ∙ r)) cx)
+          kin d h (came b e) refl (subst (λ y. SameDeclaration w b d (came b y)) (same_Some _ _ (sym rx ∙ r)) cx)
 
   -- a free name stays true where a free name of a later book is spelled like it
   free_stays : (c : Book) → b.script ≡ c.script → (k i : ℕ) (o : Came) → now_reach w b k ≡ None → TrueName w b k o → now_reach w c i ≡ None → name_at c.program i ≡ name_at b.program k → TrueName w c i o
   free_stays c s k i (from_outside a) r t f n = (f, n ∙ t.1)
-  free_stays c s k i (from_group g) r t f n = let (x, rx, cx) = t in absurd (none_some x (sym r ∙ rx))
+  free_stays c s k i (from_group g) r t f n = let (x, rx, cx) = t in absurd (none-some x (sym r ∙ rx))
   free_stays c s k i (from_script j) r t f n = (ap (λ p. has_name (kind_at p j)) (sym s) ∙ t.0, go (script_reach w b j) (ap (λ p. reach w.language.visible p j) s) t.1)
     where
       go : (o : Option ℕ) → o ≡ script_reach w c j → TrueToScript w b k j o → TrueToScript w c i j (script_reach w c j)
       go None h u = subst (TrueToScript w c i j) h (f, n ∙ u.1 ∙ ap (λ p. name_at p j) s)
-      go (Some d) h u = let (x, rx, cx) = u in absurd (none_some x (sym r ∙ rx))
+      go (Some d) h u = let (x, rx, cx) = u in absurd (none-some x (sym r ∙ rx))
 
 module _ (w : World) (V : Visible w.language.visible) (b : Book) (T : TrueNames w b) (r : Repaired) (A : Accepted w.language b.program r) where
   abbrev order : Order
@@ -125,7 +125,7 @@ module _ (w : World) (V : Visible w.language.visible) (b : Book) (T : TrueNames 
       let (x, f) = R.found i k in
       let t = together_is _ _ (first_is _ (sees i) x f).0 in
       let nx = named_class s d x ∙ ap is_some (sym t ∙ h) in
-      (x, R.reaches i ∙ cond-true (is_inner (class_at s d i)) _ _ k ∙ f, nx, SomeInj (sym (class_named s d x nx) ∙ sym t ∙ h))
+      (x, R.reaches i ∙ cond-true (is_inner (class_at s d i)) _ _ k ∙ f, nx, same_Some _ _ (sym (class_named s d x nx) ∙ sym t ∙ h))
 
   outer : (i : ℕ) (a : Name) → class_at s d i ≡ Some (OfOuter a) → (now_reach w b' i ≡ None) × (name_at b'.program i ≡ (entry_at d i).node.name)
   outer i a h = (R.reaches i ∙ cond-false (is_inner (class_at s d i)) _ _ (ap is_inner h), R.outer_kept i (ap is_outer h) ∙ ap (λ n. n.name) (sym (draft_node d i)))

@@ -4,6 +4,7 @@ use Rattle.std.specs.Char.{is_ascii_digit}
 use Rattle.std.specs.Int.{IsInRange}
 use Rattle.std.specs.Str.{all_ascii_digits}
 use Rattle.std.proofs.lemmas.List.{drop_more, take-replicate, drop-replicate}
+use Rattle.std.proofs.Math.Seq.{take-append-add}
 use Rattle.std.proofs.lemmas.Str.Parse.{digit_at}
 use Rattle.std.proofs.lemmas.Bool.{cond-true, cond-false, and_left, and_from, and_right, le-leb}
 use Rattle.model.specs.declared.nodes.Name.{Name}
@@ -42,17 +43,11 @@ stem_is (c ∷ cs) h l a b =
 
 -- Padding
 
-take_past : (k : ℕ) (s t : List ℕ) → length s ≤ k → take k (s ++ t) ≡ s ++ take (k - length s) t
-take_past k [] t h = let e : k ≡ k - 0 = omega arith in ap (λ (j : ℕ). take j t) e
-take_past zero (x ∷ s) t h = absurd (omega arith)
-take_past (suc k) (x ∷ s) t h =
-    let e : k - length s ≡ suc k - suc (length s) = omega arith in
-    ap (λ (l : List ℕ). x ∷ l) (take_past k s t (omega arith) ∙ ap (λ (j : ℕ). s ++ take j t) e)
-
 pub pad_is : (s : List ℕ) → length s ≤ 8 → s ++ drop (length s) (replicate 8 0) ≡ padded s
 pad_is s h =
+    let e : length s + (8 - length s) ≡ 8 = omega arith in
     ap (λ (l : List ℕ). s ++ l) (drop-replicate (length s) 8 0 ∙ sym (take-replicate (8 - length s) 8 0 (omega arith)))
-    ∙ sym (take_past 8 s (replicate 8 0) h)
+    ∙ (sym (take-append-add s (replicate 8 0) (8 - length s)) ∙ ap (λ (k : ℕ). take k (s ++ replicate 8 0)) e)
 
 -- The pieces at the first separator
 
