@@ -1,10 +1,10 @@
 // Cards: a name sees the declarations among the lines before its own, the latest before the others.
 ghost use Rattle.std.specs.Prelude.{◌≡◌};
-ghost use Rattle.model.specs.Scopes.{card_scopes, card_order};
+ghost use Rattle.model.specs.Scopes.{card_scopes};
 ghost use Rattle.laws.proofs.Orders.{orders_visible_lem, languages_parts_lem};
 
 use crate::language::{Language, Part};
-use crate::scopes::{Scopes, declares_as, find_by_role};
+use crate::scopes::{Scopes, declares_as};
 use crate::walk::next_tree;
 use model::grammar::{ByRoot, Cards};
 use model::nodes::Entry;
@@ -33,16 +33,6 @@ impl Scopes for Cards {
             line = next;
         }
         None
-    }
-}
-
-impl Language for Cards {
-    ghost visible = { card_order };
-
-    ghost lawful = { orders_visible_lem.card };
-
-    fn find(program: &[Entry], at: usize) -> Option<usize> {
-        find_by_role::<Cards>(program, at)
     }
 }
 

@@ -1,10 +1,10 @@
 // Flats: a name sees every declaration of the program, the first before the others.
 ghost use Rattle.std.specs.Prelude.{◌≡◌};
-ghost use Rattle.model.specs.Scopes.{flat_scopes, flat_order};
+ghost use Rattle.model.specs.Scopes.{flat_scopes};
 ghost use Rattle.laws.proofs.Orders.{orders_visible_lem, languages_parts_lem};
 
 use crate::language::{Language, Part};
-use crate::scopes::{Scopes, declares_as, find_by_role};
+use crate::scopes::{Scopes, declares_as};
 use model::grammar::{ByRoot, Flats};
 use model::nodes::Entry;
 
@@ -21,16 +21,6 @@ impl Scopes for Flats {
             }
         }
         None
-    }
-}
-
-impl Language for Flats {
-    ghost visible = { flat_order };
-
-    ghost lawful = { orders_visible_lem.flat };
-
-    fn find(program: &[Entry], at: usize) -> Option<usize> {
-        find_by_role::<Flats>(program, at)
     }
 }
 

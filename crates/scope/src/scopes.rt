@@ -8,6 +8,7 @@ ghost use Rattle.model.specs.Rules.{Visible};
 ghost use Rattle.scope.specs.Finding.{Found};
 ghost use Rattle.scope.specs.Seeking.{sought};
 
+use crate::language::Language;
 use model::grammar::Grammar;
 use model::kinds::Role;
 use model::nodes::{Entry, Name};
@@ -31,16 +32,20 @@ pub fn declares_as(entry: &Entry, name: &Name) -> bool
     entry.node.kind.is_declaration() && name.is_like(&entry.node.name)
 }
 
-// What the name at a place reaches.
-pub fn find_by_role<S: Scopes>(program: &[Entry], at: usize) -> Option<usize>
-    ensures { Found S.Grammar.grammar (order_of S.Scopes.scopes) (nodes program.now) at result }
-{
-    if at >= program.len() {
-        return None;
-    }
-    match program[at].node.kind.row().role {
-        Role::Plain => None,
-        Role::Declares => Some(at),
-        Role::Refers => S::seek(program, at),
+// The language of those scopes: what the name at a place reaches goes by the role of its node.
+impl<S: Scopes> Language for S {
+    ghost visible = { order_of S.Scopes.scopes };
+
+    ghost lawful = { S.Scopes.lawful };
+
+    fn find(program: &[Entry], at: usize) -> Option<usize> {
+        if at >= program.len() {
+            return None;
+        }
+        match program[at].node.kind.row().role {
+            Role::Plain => None,
+            Role::Declares => Some(at),
+            Role::Refers => S::seek(program, at),
+        }
     }
 }

@@ -1,11 +1,11 @@
 // Trees: a name sees the lets and binds in whose last child it stands, the innermost before the others.
 ghost use Rattle.std.specs.Prelude.{◌≡◌, ◌&&◌};
 ghost use Rattle.model.specs.Names.{alike};
-ghost use Rattle.model.specs.Scopes.{scopes_its_last, tree_scopes, tree_order};
+ghost use Rattle.model.specs.Scopes.{scopes_its_last, tree_scopes};
 ghost use Rattle.laws.proofs.Orders.{orders_visible_lem, languages_parts_lem};
 
 use crate::language::{Language, Part};
-use crate::scopes::{Scopes, find_by_role};
+use crate::scopes::{Scopes};
 use model::grammar::{ByRoot, Trees};
 use model::kinds::Kind;
 use model::nodes::{Entry, Name};
@@ -42,16 +42,6 @@ impl Scopes for Trees {
             }
         }
         None
-    }
-}
-
-impl Language for Trees {
-    ghost visible = { tree_order };
-
-    ghost lawful = { orders_visible_lem.tree };
-
-    fn find(program: &[Entry], at: usize) -> Option<usize> {
-        find_by_role::<Trees>(program, at)
     }
 }
 
