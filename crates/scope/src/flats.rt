@@ -15,12 +15,7 @@ impl Scopes for Flats {
 
     fn seek(program: &[Entry], at: usize) -> Option<usize> {
         let name = program[at].node.name;
-        for place in 0..program.len() {
-            if declares_as(&program[place], &name) {
-                return Some(place);
-            }
-        }
-        None
+        program.iter().position(|entry| declares_as(entry, &name))
     }
 }
 
