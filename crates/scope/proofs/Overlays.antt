@@ -1,5 +1,5 @@
 -- A row over which a list is laid, one place at a time.
-use Rattle.std.proofs.Common.{◌≡◌, ℕ, ◌+◌, ◌<◌, min, List, [], ◌∷◌, ◌++◌, length, get_or, take, drop, set, sym, ap, ◌∙◌, inl, inr, append_assoc, arith}
+use Rattle.std.proofs.Common.{◌≡◌, ℕ, ◌+◌, ◌<◌, min, List, [], ◌∷◌, ◌++◌, length, get_or, take, drop, set, sym, ap, ◌∙◌, inl, inr, append_assoc, append-nil, length-take, arith}
 use Rattle.std.proofs.lemmas.List.{set_at, take_more, take_all, drop_more, drop_all, length-take-le}
 use Rattle.std.proofs.lemmas.Bool.{cases_lt}
 use Rattle.scope.specs.Finding.{overlaid}
@@ -11,13 +11,16 @@ overlay_more xs row so_far i d x l m e h =
     ∙ (ap (λ y. take i xs ++ y ∷ drop (i + 1) row) h
     ∙ (sym (append_assoc (take i xs) (get_or xs i d ∷ []) (drop (i + 1) row)) ∙ ap (λ ys. ys ++ drop (i + 1) row) (sym (take_more xs i d l)))))
 
-pub overlay_all : {A : Type 0} (xs row so_far : List A) (i : ℕ) → i ≡ min (length xs) (length row) → so_far ≡ take i xs ++ drop i row → so_far ≡ overlaid xs row
-overlay_all xs row so_far i n e =
-    elim (cases_lt (length xs) (length row)) [
+-- at the end of the part in which both have a place
+pub overlay_all : {A : Type 0} (xs row so_far : List A) (i n : ℕ) → n ≡ min (length xs) (length row) → i ≡ n → so_far ≡ take i xs ++ drop i (take n row) → so_far ++ drop n row ≡ overlaid xs row
+overlay_all xs row so_far i n m l e =
+    let here : so_far ≡ take n xs = e ∙ (ap (λ j. take j xs ++ drop j (take n row)) l ∙ (ap (λ ys. take n xs ++ ys) (drop_all n (take n row) (let z = length-take n row in omega arith)) ∙ append-nil (take n xs))) in
+    ap (λ ys. ys ++ drop n row) here
+    ∙ elim (cases_lt (length xs) (length row)) [
       | inl l ↦
-          (let k : i ≡ length xs = omega arith in
-          e ∙ (ap (λ j. take j xs ++ drop j row) k ∙ ap (λ ys. ys ++ drop (length xs) row) (take_all (length xs) xs (omega arith) ∙ sym (take_all (length row) xs (omega arith)))))
+          (let k : n ≡ length xs = omega arith in
+          ap (λ j. take j xs ++ drop j row) k ∙ ap (λ ys. ys ++ drop (length xs) row) (take_all (length xs) xs (omega arith) ∙ sym (take_all (length row) xs (omega arith))))
       | inr l ↦
-          (let k : i ≡ length row = omega arith in
-          e ∙ (ap (λ j. take j xs ++ drop j row) k ∙ ap (λ ys. take (length row) xs ++ ys) (drop_all (length row) row (omega arith) ∙ sym (drop_all (length xs) row (omega arith)))))
+          (let k : n ≡ length row = omega arith in
+          ap (λ j. take j xs ++ drop j row) k ∙ ap (λ ys. take (length row) xs ++ ys) (drop_all (length row) row (omega arith) ∙ sym (drop_all (length xs) row (omega arith))))
     ]

@@ -24,8 +24,8 @@ pub trait Language: Grammar {
         ensures { reached.new ≡ overlaid (reaches visible (nodes program.now)) reached.old }
     {
         let count = program.len().min(reached.len());
-        for at in 0..count {
-            reached[at] = Self::find(program, at);
+        for (at, reach) in reached[..count].iter_mut().enumerate() {
+            *reach = Self::find(program, at);
         }
     }
 }
