@@ -1,16 +1,17 @@
 -- Cards: the lines in turn, and the latest declaration of a name among those that have passed.
-use Rattle.std.proofs.Common.{◌≡◌, ℕ, zero, suc, ◌+◌, ◌-◌, ◌<◌, ◌≤◌, min, Bool, true, false, ◌&&◌, List, [], ◌∷◌, ◌++◌, length, get_or, drop, replicate, Some, None, Option, sym, refl, ap, ◌∙◌, ap₂, subst₂, inl, inr, arith}
-use Rattle.std.proofs.lemmas.List.{get_or_append_left, get_or-append_right, get_or-replicate, drop_all, length-drop, length-replicate}
+use Rattle.std.proofs.Common.{◌≡◌, ℕ, zero, suc, ◌+◌, ◌-◌, ◌<◌, ◌≤◌, min, Bool, true, false, ◌&&◌, List, [], ◌∷◌, ◌++◌, length, get_or, take, drop, replicate, Some, None, Option, sym, refl, ap, ◌∙◌, ap₂, subst₂, inl, inr, arith}
+use Rattle.std.proofs.lemmas.List.{get_or_append_left, get_or-append_right, get_or-drop, get_or-replicate, take_all, drop_all, length-drop, length-replicate}
 use Rattle.std.proofs.lemmas.Bool.{cases_lt}
 use Rattle.model.specs.declared.kinds.Kind.{Kind}
 use Rattle.model.specs.declared.nodes.Name.{Name}
 use Rattle.model.specs.declared.nodes.Node.{Node}
 use Rattle.model.specs.declared.nodes.Entry.{Entry}
 use Rattle.model.specs.Kinds.{declares}
-use Rattle.model.specs.Names.{alike, blank, node_at, kind_at, name_at, entry_at, nodes}
+use Rattle.model.specs.Names.{alike, blank, blank_entry, node_at, kind_at, name_at, entry_at, nodes}
 use Rattle.model.specs.Forest.{Forest, nil, tree, Shape, shape, arity, first, after, size, width, grow, kinds_only}
 use Rattle.model.specs.Scopes.{more, card_lines, card_scopes, reach_in}
 use Rattle.laws.specs.Walks.{beyond}
+use Rattle.laws.proofs.Entries.{node_of}
 use Rattle.laws.proofs.RoundTrips.{length_nodes}
 use Rattle.laws.proofs.Forests.{size_grow, size_kinds, kinds_first, kinds_after, shape_at}
 use Rattle.laws.proofs.Walks.{first_nil, after_from, beyond_more, steps_at}
@@ -55,6 +56,12 @@ pub none_left : (p : List Node) (at k : ℕ) → length p ≤ at → beyond p at
 none_left p at k l =
     let e = ap (λ (f : Forest Node). size f) (ap (λ (ns : List Node). first k (grow ns)) (drop_all at p l) ∙ first_nil k) in
     omega arith
+
+-- an entry of those from a place on
+pub entry_on : (es : List Entry) (from i : ℕ) → (get_or (take (length es - from) (drop from es)) i blank_entry).node ≡ node_at (nodes es) (from + i)
+entry_on es from i =
+    ap (λ (rest : List Entry). (get_or rest i blank_entry).node) (take_all (length es - from) (drop from es) (let z = length-drop from es in omega arith))
+    ∙ (ap (λ (e : Entry). e.node) (get_or-drop from es i blank_entry) ∙ node_of es (from + i))
 
 -- Lines
 
