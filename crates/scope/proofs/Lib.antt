@@ -1,4 +1,5 @@
 pub mod Overlays
+pub mod Backward
 pub mod Rows
 pub mod Roles
 pub mod Scoping

@@ -28,8 +28,7 @@ impl Scopes for Trees {
     fn seek(program: &[Entry], at: usize) -> Option<usize> {
         let name = program[at].node.name;
         let mut between: usize = 0;
-        for up in (0..at).rev() {
-            let entry = &program[up];
+        for (up, entry) in program[..at].iter().enumerate().rev() {
             let arity = entry.node.arity();
             if arity <= between {
                 between = between - arity + 1;
