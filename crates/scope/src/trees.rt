@@ -14,8 +14,7 @@ use model::nodes::{Entry, Name};
 fn scopes_as(entry: &Entry, name: &Name) -> bool
     ensures { result ≡ (scopes_its_last entry.now.node.kind && alike name.now entry.now.node.name) }
 {
-    let kind = entry.node.kind;
-    (kind == Kind::Let || kind == Kind::Bind) && name.is_like(&entry.node.name)
+    matches!(entry.node.kind, Kind::Let | Kind::Bind) && name.is_like(&entry.node.name)
 }
 
 impl Scopes for Trees {
