@@ -1,5 +1,5 @@
 -- Cards: the lines in turn, and the latest declaration of a name among those that have passed.
-use Rattle.std.proofs.Common.{◌≡◌, ℕ, zero, suc, ◌+◌, ◌-◌, ◌<◌, ◌≤◌, min, Bool, true, false, ◌&&◌, List, [], ◌∷◌, ◌++◌, length, get_or, take, drop, replicate, Some, None, Option, sym, refl, ap, ◌∙◌, ap₂, subst₂, inl, inr, arith}
+use Rattle.std.proofs.Common.{◌≡◌, ℕ, zero, suc, ◌+◌, ◌-◌, ◌<◌, ◌≤◌, min, Bool, true, false, ◌&&◌, List, [], ◌∷◌, ◌++◌, length, get_or, take, drop, replicate, Some, None, Option, sym, refl, ap, ◌∙◌, ap₂, subst, subst₂, inl, inr, arith}
 use Rattle.std.proofs.lemmas.List.{get_or_append_left, get_or-append_right, get_or-drop, get_or-replicate, take_all, drop_all, length-drop, length-replicate}
 use Rattle.std.proofs.lemmas.Bool.{cases_lt}
 use Rattle.model.specs.declared.kinds.Kind.{Kind}
@@ -154,21 +154,28 @@ module _ (p : List Node) (at : ℕ) (name : Name) (inside : at < length p) where
 
 -- The same over a row of entries, one line further on
 
-module _ (es : List Entry) (at : ℕ) (name : Name) (inside : at < length es) (turns turn line next : ℕ) (latest : Option ℕ) (some : turn < turns) (e : next ≡ beyond (nodes es) line 1) (w : Passed (nodes es) at name line (turns - turn) latest) where
+module _ (es xs : List Entry) (at : ℕ) (name : Name) (inside : at < length es) (begin next left after line : ℕ) (latest : Option ℕ) (same : xs ≡ es) (passed : Passed (nodes es) at name begin left latest) (fewer : left ≡ after + 1) (here : line ≡ begin) (e : next ≡ beyond (nodes xs) begin 1) where
+  w : Passed (nodes es) at name line left latest
+  w = subst (λ j. Passed (nodes es) at name j left latest) (sym here) passed
+
+  next_is : next ≡ beyond (nodes es) line 1
+  next_is = e ∙ (ap (λ (ys : List Entry). beyond (nodes ys) begin 1) same ∙ ap (λ j. beyond (nodes es) j 1) (sym here))
+
   inside_nodes : at < length (nodes es)
   inside_nodes = let z = length_nodes es in omega arith
 
   pub stops_in_own_line : at < next → reach_in (nodes es) name (get_or (card_scopes (shape (nodes es))) at []) ≡ latest
-  stops_in_own_line l = own_line (nodes es) at name inside_nodes line (turns - turn) latest (omega arith) w (omega arith)
+  stops_in_own_line l = own_line (nodes es) at name inside_nodes line left latest (omega arith) w (let z = next_is in omega arith)
 
-  one_fewer : (last : Option ℕ) → Passed (nodes es) at name (beyond (nodes es) line 1) (turns - turn - 1) last → Passed (nodes es) at name next (turns - (turn + 1)) last
-  one_fewer last v = let z : turns - turn - 1 ≡ turns - (turn + 1) = omega arith in subst₂ (λ j k. Passed (nodes es) at name j k last) (sym e) z v
+  one_fewer : (last : Option ℕ) → Passed (nodes es) at name (beyond (nodes es) line 1) (left - 1) last → Passed (nodes es) at name next after last
+  one_fewer last v = let z : left - 1 ≡ after = omega arith in subst₂ (λ j k. Passed (nodes es) at name j k last) (sym next_is) z v
 
   module _ (l : next ≤ at) (b : Bool) (h : b ≡ (declares (entry_at es line).node.kind && alike name (entry_at es line).node.name)) where
-    pub goes_on_declared : b ≡ true → Passed (nodes es) at name next (turns - (turn + 1)) (Some line)
-    goes_on_declared t =
-        one_fewer (Some line) (line_declares (nodes es) at name inside_nodes line (turns - turn) latest (omega arith) w (omega arith) (tested declares es name line b h ∙ t))
+    reached : beyond (nodes es) line 1 ≤ at
+    reached = let z = next_is in omega arith
 
-    pub goes_on_undeclared : b ≡ false → Passed (nodes es) at name next (turns - (turn + 1)) latest
-    goes_on_undeclared t =
-        one_fewer latest (line_passes (nodes es) at name inside_nodes line (turns - turn) latest (omega arith) w (omega arith) (tested declares es name line b h ∙ t))
+    pub goes_on_declared : b ≡ true → Passed (nodes es) at name next after (Some line)
+    goes_on_declared t = one_fewer (Some line) (line_declares (nodes es) at name inside_nodes line left latest (omega arith) w reached (tested declares es name line b h ∙ t))
+
+    pub goes_on_undeclared : b ≡ false → Passed (nodes es) at name next after latest
+    goes_on_undeclared t = one_fewer latest (line_passes (nodes es) at name inside_nodes line left latest (omega arith) w reached (tested declares es name line b h ∙ t))
