@@ -4,7 +4,7 @@ ghost use Rattle.model.specs.Scopes.{root_scopes, by_root};
 ghost use Rattle.laws.proofs.Orders.{orders_visible_lem, part_itself};
 
 use crate::language::{Language, Part};
-use crate::scopes::{Scopes};
+use crate::scopes::Scopes;
 use model::grammar::{ByRoot, Cards, Flats, Trees};
 use model::kinds::Kind;
 use model::nodes::Entry;

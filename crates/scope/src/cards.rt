@@ -1,10 +1,7 @@
 // Cards: a name sees the declarations among the lines before its own, the latest before the others.
-ghost use Rattle.std.specs.Prelude.{◌≡◌, ◌+◌, ◌<◌, length, MatchOption};
 ghost use Rattle.std.specs.Iterator.{at_most};
-ghost use Rattle.model.specs.Forest.{arity};
-ghost use Rattle.model.specs.Names.{entry_at, nodes};
 ghost use Rattle.model.specs.Scopes.{card_scopes};
-ghost use Rattle.laws.specs.Walks.{beyond};
+ghost use Rattle.scope.specs.Lines.{LinesGive};
 ghost use Rattle.laws.proofs.Orders.{orders_visible_lem, languages_parts_lem};
 
 use crate::language::Part;
@@ -22,25 +19,10 @@ struct Lines<'a> {
     left: usize,
 }
 
-impl Lines<'_> {
-    fn of(program: &[Entry]) -> Lines<'_>
-        requires { 0 < length program.now }
-        ensures program { result.program.now ≡ program.now }
-        ensures begin { result.begin ≡ 1 }
-        ensures left { result.left ≡ arity (entry_at program.now 0).node }
-    {
-        Lines {
-            program,
-            begin: 1,
-            left: program[0].node.arity(),
-        }
-    }
-}
-
 impl Iterator for Lines<'_> {
     type Item = Range<usize>;
 
-    ghost next_gives = { λ s r t. (t.program ≡ s.program) × MatchOption r (s.left ≡ 0) (λ line. (s.left ≡ t.left + 1) × (line.start ≡ s.begin) × (line.end ≡ t.begin) × (t.begin ≡ beyond (nodes s.program.now) s.begin 1)) };
+    ghost next_gives = { LinesGive };
 
     ghost remaining = { λ s. at_most s.left };
 
@@ -64,7 +46,12 @@ impl Scopes for Cards {
         }
         let name = program[at].node.name;
         let mut latest = None;
-        for line in Lines::of(program) {
+        let lines = Lines {
+            program,
+            begin: 1,
+            left: program[0].node.arity(),
+        };
+        for line in lines {
             if at < line.end {
                 return latest;
             }

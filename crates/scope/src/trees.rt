@@ -5,7 +5,7 @@ ghost use Rattle.model.specs.Scopes.{scopes_its_last, tree_scopes};
 ghost use Rattle.laws.proofs.Orders.{orders_visible_lem, languages_parts_lem};
 
 use crate::language::{Language, Part};
-use crate::scopes::{Scopes};
+use crate::scopes::Scopes;
 use model::grammar::{ByRoot, Trees};
 use model::kinds::Kind;
 use model::nodes::{Entry, Name};

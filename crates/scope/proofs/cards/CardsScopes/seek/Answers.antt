@@ -27,25 +27,25 @@ returns-then-at-line c =
     let es = c.args.program.now in
     let s = c.loop-line.line-iterator in
     let t = c.next.new.self in
-    let step = c.in-Some.ensures.steps.1 in
+    let step = c.in-Some.ensures.steps in
     sym
     (named_there card_scopes es c.args.at
     ∙ stops_in_own_line es s.program.now c.args.at (entry_at es c.args.at).node.name c.requires s.begin t.begin s.left t.left c.in-Some.line.start c.loop-line.latest
-    c.loop-line.invariant.same c.loop-line.invariant.passed step.0 step.1 step.3 (omega (arith, step, c.if-at-line.true)))
+    c.loop-line.invariant.same c.loop-line.invariant.passed step.fewer step.starts step.whole (omega (arith, step, c.if-at-line.true)))
 
 pub loop-line-preserved-then-declares_as : goal.loop-line-preserved-then-declares_as
 loop-line-preserved-then-declares_as c =
     let es = c.args.program.now in
     let s = c.loop-line.line-iterator in
     let t = c.next.new.self in
-    let step = c.in-Some.ensures.steps.1 in
+    let step = c.in-Some.ensures.steps in
     record {
       can = tt;
       finite = tt;
       same = search rules;
       passed =
           goes_on_declared es s.program.now c.args.at (entry_at es c.args.at).node.name c.requires s.begin t.begin s.left t.left c.in-Some.line.start c.loop-line.latest
-          c.loop-line.invariant.same c.loop-line.invariant.passed step.0 step.1 step.3 (omega (arith, step, c.if-at-line.false)) c.declares_as.result c.declares_as.ensures c.if-declares_as.true;
+          c.loop-line.invariant.same c.loop-line.invariant.passed step.fewer step.starts step.whole (omega (arith, step, c.if-at-line.false)) c.declares_as.result c.declares_as.ensures c.if-declares_as.true;
     }
 
 pub loop-line-preserved : goal.loop-line-preserved
@@ -53,12 +53,12 @@ loop-line-preserved c =
     let es = c.args.program.now in
     let s = c.loop-line.line-iterator in
     let t = c.next.new.self in
-    let step = c.in-Some.ensures.steps.1 in
+    let step = c.in-Some.ensures.steps in
     record {
       can = tt;
       finite = tt;
       same = search rules;
       passed =
           goes_on_undeclared es s.program.now c.args.at (entry_at es c.args.at).node.name c.requires s.begin t.begin s.left t.left c.in-Some.line.start c.loop-line.latest
-          c.loop-line.invariant.same c.loop-line.invariant.passed step.0 step.1 step.3 (omega (arith, step, c.if-at-line.false)) c.declares_as.result c.declares_as.ensures c.if-declares_as.false;
+          c.loop-line.invariant.same c.loop-line.invariant.passed step.fewer step.starts step.whole (omega (arith, step, c.if-at-line.false)) c.declares_as.result c.declares_as.ensures c.if-declares_as.false;
     }
