@@ -6,4 +6,3 @@ pub mod Scoping
 pub mod FlatWalk
 pub mod TreeWalk
 pub mod CardWalk
-pub mod RootWalk
