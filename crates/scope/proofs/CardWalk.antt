@@ -2,6 +2,8 @@
 use Rattle.std.proofs.Common.{◌≡◌, ℕ, zero, suc, ◌+◌, ◌-◌, ◌<◌, ◌≤◌, min, Bool, true, false, ◌&&◌, List, [], ◌∷◌, ◌++◌, length, get_or, take, drop, replicate, Some, None, Option, sym, refl, ap, ◌∙◌, ap₂, subst, subst₂, inl, inr, arith}
 use Rattle.std.proofs.lemmas.List.{get_or_append_left, get_or-append_right, get_or-drop, get_or-replicate, take_all, drop_all, length-drop, length-replicate}
 use Rattle.std.proofs.lemmas.Bool.{cases_lt}
+use Rattle.std.specs.declared.ops.Range.{Range}
+use denote.Ref.{Bor}
 use Rattle.model.specs.declared.kinds.Kind.{Kind}
 use Rattle.model.specs.declared.nodes.Name.{Name}
 use Rattle.model.specs.declared.nodes.Node.{Node}
@@ -15,6 +17,8 @@ use Rattle.laws.proofs.Entries.{node_of}
 use Rattle.laws.proofs.RoundTrips.{length_nodes}
 use Rattle.laws.proofs.Forests.{size_grow, size_kinds, kinds_first, kinds_after, shape_at}
 use Rattle.laws.proofs.Walks.{first_nil, after_from, beyond_more, steps_at}
+use Rattle.scope.specs.declared.cards.Lines.{Lines}
+use Rattle.scope.specs.Lines.{LineOn}
 use Rattle.scope.proofs.Scoping.{reach_here, reach_past, tested}
 
 -- Past trees
@@ -149,33 +153,47 @@ module _ (p : List Node) (at : ℕ) (name : Name) (inside : at < length p) where
     pub line_passes : beyond p line 1 ≤ at → (declares (kind_at p line) && alike name (name_at p line)) ≡ false → Passed p at name (beyond p line 1) (left - 1) latest
     line_passes l h = on l latest (w.latest_is ∙ sym (reach_past p name (declares (kind_at p line)) line w.declared h))
 
-  pub no_line_left : (line left : ℕ) (latest : Option ℕ) → left ≡ 0 → Passed p at name line left latest → reach_in p name (get_or (card_scopes (shape p)) at []) ≡ None
-  no_line_left line left latest z w = ap (reach_in p name) (w.same ∙ ap (λ k. get_or (card_lines line w.declared (first k (shape (drop line p)))) (at - line) []) z)
+-- The same over a row of entries, by the iterator of its lines
 
--- The same over a row of entries, one line further on
+-- the walk has come to where the iterator is
+pub record Passing (es : List Entry) (at : ℕ) (name : Name) (s : Lines) (latest : Option ℕ) : Type 0 where
+  pub same : s.program.now ≡ es
+  pub passed : Passed (nodes es) at name s.begin s.left latest
 
-module _ (es xs : List Entry) (at : ℕ) (name : Name) (inside : at < length es) (begin next left after line : ℕ) (latest : Option ℕ) (same : xs ≡ es) (passed : Passed (nodes es) at name begin left latest) (fewer : left ≡ after + 1) (here : line ≡ begin) (e : next ≡ beyond (nodes xs) begin 1) where
-  w : Passed (nodes es) at name line left latest
-  w = subst (λ j. Passed (nodes es) at name j left latest) (sym here) passed
+pub passing_begins : (es : List Entry) (at : ℕ) (name : Name) (s : Lines) → at < length es → 0 < at → s.program.now ≡ es → s.begin ≡ 1 → s.left ≡ arity (entry_at es 0).node → Passing es at name s None
+passing_begins es at name s l some same one all =
+    record {
+      same = same;
+      passed = subst₂ (λ j k. Passed (nodes es) at name j k None) (sym one) (sym (all ∙ ap arity (node_of es 0))) (lines_begin (nodes es) at name (let z = length_nodes es in omega arith) some);
+    }
 
-  next_is : next ≡ beyond (nodes es) line 1
-  next_is = e ∙ (ap (λ (ys : List Entry). beyond (nodes ys) begin 1) same ∙ ap (λ j. beyond (nodes es) j 1) (sym here))
+module _ (es : List Entry) (at : ℕ) (name : Name) (inside : at < length es) (s t : Lines) (line : Range ℕ) (latest : Option ℕ) (w : Passing es at name s latest) (step : LineOn s t line) where
+  here : Passed (nodes es) at name line.start s.left latest
+  here = subst (λ j. Passed (nodes es) at name j s.left latest) (sym step.starts) w.passed
+
+  next_is : t.begin ≡ beyond (nodes es) line.start 1
+  next_is = step.whole ∙ (ap (λ (xs : List Entry). beyond (nodes xs) s.begin 1) w.same ∙ ap (λ j. beyond (nodes es) j 1) (sym step.starts))
+
+  one_left : 0 < s.left
+  one_left = let z = step.fewer in omega arith
 
   inside_nodes : at < length (nodes es)
   inside_nodes = let z = length_nodes es in omega arith
 
-  pub stops_in_own_line : at < next → reach_in (nodes es) name (get_or (card_scopes (shape (nodes es))) at []) ≡ latest
-  stops_in_own_line l = own_line (nodes es) at name inside_nodes line left latest (omega arith) w (let z = next_is in omega arith)
+  pub stops_in_own_line : at < line.end → reach_in (nodes es) name (get_or (card_scopes (shape (nodes es))) at []) ≡ latest
+  stops_in_own_line l = own_line (nodes es) at name inside_nodes line.start s.left latest one_left here (let z = next_is in let e = step.ends in omega arith)
 
-  one_fewer : (last : Option ℕ) → Passed (nodes es) at name (beyond (nodes es) line 1) (left - 1) last → Passed (nodes es) at name next after last
-  one_fewer last v = let z : left - 1 ≡ after = omega arith in subst₂ (λ j k. Passed (nodes es) at name j k last) (sym next_is) z v
+  one_fewer : (last : Option ℕ) → Passed (nodes es) at name (beyond (nodes es) line.start 1) (s.left - 1) last → Passing es at name t last
+  one_fewer last v =
+      let z : s.left - 1 ≡ t.left = (let f = step.fewer in omega arith) in
+      record { same = ap (λ (b : Bor (List Entry)). b.now) step.same ∙ w.same; passed = subst₂ (λ j k. Passed (nodes es) at name j k last) (sym next_is) z v }
 
-  module _ (l : next ≤ at) (b : Bool) (h : b ≡ (declares (entry_at es line).node.kind && alike name (entry_at es line).node.name)) where
-    reached : beyond (nodes es) line 1 ≤ at
-    reached = let z = next_is in omega arith
+  module _ (l : line.end ≤ at) (b : Bool) (h : b ≡ (declares (entry_at es line.start).node.kind && alike name (entry_at es line.start).node.name)) where
+    reached : beyond (nodes es) line.start 1 ≤ at
+    reached = let z = next_is in let e = step.ends in omega arith
 
-    pub goes_on_declared : b ≡ true → Passed (nodes es) at name next after (Some line)
-    goes_on_declared t = one_fewer (Some line) (line_declares (nodes es) at name inside_nodes line left latest (omega arith) w reached (tested declares es name line b h ∙ t))
+    pub goes_on_declared : b ≡ true → Passing es at name t (Some line.start)
+    goes_on_declared h' = one_fewer (Some line.start) (line_declares (nodes es) at name inside_nodes line.start s.left latest one_left here reached (tested declares es name line.start b h ∙ h'))
 
-    pub goes_on_undeclared : b ≡ false → Passed (nodes es) at name next after latest
-    goes_on_undeclared t = one_fewer latest (line_passes (nodes es) at name inside_nodes line left latest (omega arith) w reached (tested declares es name line b h ∙ t))
+    pub goes_on_undeclared : b ≡ false → Passing es at name t latest
+    goes_on_undeclared h' = one_fewer latest (line_passes (nodes es) at name inside_nodes line.start s.left latest one_left here reached (tested declares es name line.start b h ∙ h'))
