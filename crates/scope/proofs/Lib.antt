@@ -5,4 +5,5 @@ pub mod Roles
 pub mod Scoping
 pub mod FlatWalk
 pub mod TreeWalk
+pub mod PastTrees
 pub mod CardWalk

@@ -152,7 +152,7 @@ module _ (p : List Node) (at : ℕ) where
     pub stands : StandsIn c (at - j) (trees_from j)
     pub reaches : (Γ Λ : List ℕ) → reach_in p name (scope j Γ Λ (trees_from j) (at - j)) ≡ reach_in p name (cond (eqb c 0) Γ Λ)
 
-  pub walk_begins : (name : Name) → at < length p → Walked name at 0
+  walk_begins : (name : Name) → at < length p → Walked name at 0
   walk_begins name l =
       let a = arity (node_at p at) in
       let f = trees_from (at + 1) in
@@ -199,22 +199,22 @@ module _ (p : List Node) (at : ℕ) where
       walk_up : (passed : (Γ : List ℕ) → reach_in p name (cond (eqb c 0) Γ (more (scopes_its_last kind) j Γ)) ≡ reach_in p name Γ) → Walked name j 0
       walk_up passed = record { few = omega arith; stands = stands_at 0 (stands_first kind wants c on rest child w.stands); reaches = λ Γ Λ. in_child Γ Λ ∙ passed Γ }
 
-      pub walk_from_first : c ≡ 0 → Walked name j 0
+      walk_from_first : c ≡ 0 → Walked name j 0
       walk_from_first z = walk_up (λ Γ. ap (λ n. reach_in p name (cond (eqb n 0) Γ (more (scopes_its_last kind) j Γ))) z)
 
       last_of : 0 < c → (Γ : List ℕ) → reach_in p name (cond (eqb c 0) Γ (more (scopes_its_last kind) j Γ)) ≡ reach_in p name (more (scopes_its_last kind) j Γ)
       last_of z Γ = ap (λ b. reach_in p name (cond b Γ (more (scopes_its_last kind) j Γ))) (ne_eqb c 0 (λ e. omega arith))
 
-      pub walk_unlike : 0 < c → (scopes_its_last kind && alike name (name_at p j)) ≡ false → Walked name j 0
+      walk_unlike : 0 < c → (scopes_its_last kind && alike name (name_at p j)) ≡ false → Walked name j 0
       walk_unlike z u = walk_up (λ Γ. last_of z Γ ∙ reach_past p name (scopes_its_last kind) j Γ u)
 
-      pub walk_finds : 0 < c → (scopes_its_last kind && alike name (name_at p j)) ≡ true → reach_in p name (scope 0 [] [] (shape p) at) ≡ Some j
+      walk_finds : 0 < c → (scopes_its_last kind && alike name (name_at p j)) ≡ true → reach_in p name (scope 0 [] [] (shape p) at) ≡ Some j
       walk_finds z h =
           let s = seen j (omega arith) inside in
           ap (reach_in p name) s.same ∙ (in_child s.first_sees s.others_see ∙ (last_of z s.first_sees ∙ reach_here p name (scopes_its_last kind) j s.first_sees h))
 
     -- node j and its children stand before the name
-    pub walk_past : wants ≤ c → Walked name j (c - wants + 1)
+    walk_past : wants ≤ c → Walked name j (c - wants + 1)
     walk_past l =
         record {
           few = let q = w.few in omega arith;
@@ -228,7 +228,7 @@ module _ (p : List Node) (at : ℕ) where
         same_either true Λ = refl
         same_either false Λ = refl
 
-  pub walk_ends : (name : Name) (c : ℕ) → Walked name 0 c → reach_in p name (scope 0 [] [] (shape p) at) ≡ None
+  walk_ends : (name : Name) (c : ℕ) → Walked name 0 c → reach_in p name (scope 0 [] [] (shape p) at) ≡ None
   walk_ends name c w =
       let e : at ≡ at - 0 = omega arith in
       ap (λ i. reach_in p name (scope 0 [] [] (shape p) i)) e ∙ (w.reaches [] [] ∙ nothing (eqb c 0))
