@@ -16,8 +16,8 @@ overlay_all xs row so_far i n m l e =
     let fronts : take n xs ≡ take (length row) xs = (let z : n ≡ min (length row) (length xs) = omega arith in ap (λ j. take j xs) z ∙ take_min (length row) xs) in
     let backs : drop n row ≡ drop (length xs) row = ap (λ j. drop j row) m ∙ drop_min (length xs) row in
     let all : so_far ≡ take n xs =
-        e
-        ∙ (ap (λ j. take j xs ++ drop j (take n row)) l
-        ∙ (ap (λ ys. take n xs ++ ys) (drop_all n (take n row) (let z = length-take n row in omega arith)) ∙ append-nil (take n xs)))
+    e
+    ∙ (ap (λ j. take j xs ++ drop j (take n row)) l
+    ∙ (ap (λ ys. take n xs ++ ys) (drop_all n (take n row) (let z = length-take n row in omega arith)) ∙ append-nil (take n xs)))
     in
     ap₂ (λ ys zs. ys ++ zs) (all ∙ fronts) backs

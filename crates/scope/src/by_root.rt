@@ -3,7 +3,6 @@ ghost use Rattle.std.specs.Prelude.{◌≡◌};
 ghost use Rattle.model.specs.Scopes.{root_scopes, by_root};
 ghost use Rattle.laws.proofs.Orders.{orders_visible_lem, part_itself};
 
-use crate::language::{Language, Part};
 use crate::scopes::Scopes;
 use model::grammar::{ByRoot, Cards, Flats, Trees};
 use model::kinds::Kind;
@@ -14,6 +13,8 @@ impl Scopes for ByRoot {
 
     ghost lawful = { orders_visible_lem.by_root };
 
+    ghost part = { part_itself by_root };
+
     fn seek(program: &[Entry], at: usize) -> Option<usize> {
         match program[0].node.kind {
             Kind::Card => Cards::seek(program, at),
@@ -21,8 +22,4 @@ impl Scopes for ByRoot {
             _ => Flats::seek(program, at),
         }
     }
-}
-
-impl Part<ByRoot> for ByRoot {
-    ghost part = { part_itself by_root };
 }

@@ -4,10 +4,9 @@ ghost use Rattle.model.specs.Scopes.{card_scopes};
 ghost use Rattle.scope.specs.Lines.{LinesGive};
 ghost use Rattle.laws.proofs.Orders.{orders_visible_lem, languages_parts_lem};
 
-use crate::language::Part;
 use crate::scopes::{Scopes, declares_as};
 use crate::walk::next_tree;
-use model::grammar::{ByRoot, Cards};
+use model::grammar::Cards;
 use model::nodes::Entry;
 use std::ops::Range;
 
@@ -39,6 +38,8 @@ impl Scopes for Cards {
 
     ghost lawful = { orders_visible_lem.card };
 
+    ghost part = { languages_parts_lem.card };
+
     // Goes through the lines from the first to the name's own.
     fn seek(program: &[Entry], at: usize) -> Option<usize> {
         if at == 0 {
@@ -61,8 +62,4 @@ impl Scopes for Cards {
         }
         None
     }
-}
-
-impl Part<ByRoot> for Cards {
-    ghost part = { languages_parts_lem.card };
 }

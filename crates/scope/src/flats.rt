@@ -3,9 +3,8 @@ ghost use Rattle.std.specs.Prelude.{◌≡◌};
 ghost use Rattle.model.specs.Scopes.{flat_scopes};
 ghost use Rattle.laws.proofs.Orders.{orders_visible_lem, languages_parts_lem};
 
-use crate::language::{Language, Part};
 use crate::scopes::{Scopes, declares_as};
-use model::grammar::{ByRoot, Flats};
+use model::grammar::Flats;
 use model::nodes::Entry;
 
 impl Scopes for Flats {
@@ -13,12 +12,10 @@ impl Scopes for Flats {
 
     ghost lawful = { orders_visible_lem.flat };
 
+    ghost part = { languages_parts_lem.flat };
+
     fn seek(program: &[Entry], at: usize) -> Option<usize> {
         let name = program[at].node.name;
         program.iter().position(|entry| declares_as(entry, &name))
     }
-}
-
-impl Part<ByRoot> for Flats {
-    ghost part = { languages_parts_lem.flat };
 }

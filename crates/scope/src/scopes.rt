@@ -1,15 +1,16 @@
 // What the languages share: a declaration finds itself, a node without a name nothing, and a reference what stands in its scope.
 ghost use Rattle.std.specs.Prelude.{◌≡◌, ℕ, ◌<◌, ◌&&◌, List, length};
-ghost use Rattle.model.specs.Kinds.{declares};
+ghost use Rattle.model.specs.Kinds.{declares, root_grammar};
 ghost use Rattle.model.specs.Names.{alike, nodes};
 ghost use Rattle.model.specs.Forest.{Shape};
-ghost use Rattle.model.specs.Scopes.{order_of};
+ghost use Rattle.model.specs.Scopes.{order_of, root_order};
 ghost use Rattle.model.specs.Rules.{Visible};
 ghost use Rattle.scope.specs.Finding.{Found};
 ghost use Rattle.scope.specs.Seeking.{sought};
+ghost use Rattle.scope.specs.Parts.{PartOf};
 
-use crate::language::Language;
-use model::grammar::Grammar;
+use crate::language::{Language, Part};
+use model::grammar::{ByRoot, Grammar};
 use model::kinds::Role;
 use model::nodes::{Entry, Name};
 
@@ -23,6 +24,9 @@ pub trait Scopes: Grammar {
     fn seek(program: &[Entry], at: usize) -> Option<usize>
         requires { at < length program.now }
         ensures { result ≡ sought scopes (nodes program.now) at };
+
+    // What makes it a part of the language that goes by the root.
+    ghost part: { PartOf Self.Grammar.grammar (order_of scopes) root_grammar root_order };
 }
 
 // Whether the entry declares a name that is spelled so.
@@ -48,4 +52,9 @@ impl<S: Scopes> Language for S {
             Role::Refers => S::seek(program, at),
         }
     }
+}
+
+// Each of them is a part of the language that goes by the root.
+impl<S: Scopes> Part<ByRoot> for S {
+    ghost part = { S.part };
 }

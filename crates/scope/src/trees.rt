@@ -4,9 +4,8 @@ ghost use Rattle.model.specs.Names.{alike};
 ghost use Rattle.model.specs.Scopes.{scopes_its_last, tree_scopes};
 ghost use Rattle.laws.proofs.Orders.{orders_visible_lem, languages_parts_lem};
 
-use crate::language::{Language, Part};
 use crate::scopes::Scopes;
-use model::grammar::{ByRoot, Trees};
+use model::grammar::Trees;
 use model::kinds::Kind;
 use model::nodes::{Entry, Name};
 
@@ -21,6 +20,8 @@ impl Scopes for Trees {
     ghost scopes = { tree_scopes };
 
     ghost lawful = { orders_visible_lem.tree };
+
+    ghost part = { languages_parts_lem.tree };
 
     // Goes back from the name to the root, and counts the trees that stand between.
     // A node that wants no more of them than there are has whole trees below it; one that wants more holds the name.
@@ -41,8 +42,4 @@ impl Scopes for Trees {
         }
         None
     }
-}
-
-impl Part<ByRoot> for Trees {
-    ghost part = { languages_parts_lem.tree };
 }
