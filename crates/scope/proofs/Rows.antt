@@ -95,17 +95,18 @@ module _ (g : Grammar) (scopes : Shape → List (List ℕ)) (vis : Visible (orde
   nameless : has_name (kind_at (nodes es) at) ≡ false → FoundThere None
   nameless h = found g (order_of scopes) vis (nodes es) at None (sym (of_nameless (order_of scopes) vis (nodes es) at h))
 
-  pub found_past : length es ≤ at → FoundThere None
-  found_past l = nameless (ap (λ (n : Node). has_name n.kind) (get_or_past (nodes es) at blank (let z = length_nodes es in omega arith)))
+  pub found_past : length es ≤ at → (r : Option ℕ) → r ≡ None → FoundThere r
+  found_past l r e = subst FoundThere (sym e) (nameless (ap (λ (n : Node). has_name n.kind) (get_or_past (nodes es) at blank (let z = length_nodes es in omega arith))))
 
-  module _ (x : KindRow) (its_row : shown x ≡ row_of (entry_at es at).node.kind) where
+  module _ (e : Entry) (there : e ≡ entry_at es at) (x : KindRow) (its_row : shown x ≡ row_of e.node.kind) where
+    role_there : (r : Role) → x.role ≡ r → (row (kind_at (nodes es) at)).role ≡ r
+    role_there r h = role_at x es at r (its_row ∙ ap (λ (y : Entry). row_of y.node.kind) there) h
+
     pub found_plain : x.role ≡ Plain → FoundThere None
-    found_plain h = nameless (ap role_named (role_at x es at Plain its_row h))
+    found_plain h = nameless (ap role_named (role_there Plain h))
 
     pub found_itself : x.role ≡ Declares → FoundThere (Some at)
-    found_itself h =
-        found g (order_of scopes) vis (nodes es) at (Some at)
-        (sym (reaches_itself (order_of scopes) vis (nodes es) at (ap role_declares (role_at x es at Declares its_row h))))
+    found_itself h = found g (order_of scopes) vis (nodes es) at (Some at) (sym (reaches_itself (order_of scopes) vis (nodes es) at (ap role_declares (role_there Declares h))))
 
     pub found_sought : x.role ≡ Refers → (r : Option ℕ) → r ≡ sought scopes (nodes es) at → FoundThere r
-    found_sought h r e = found g (order_of scopes) vis (nodes es) at r (e ∙ sym (of_reference scopes (nodes es) at (role_at x es at Refers its_row h)))
+    found_sought h r e = found g (order_of scopes) vis (nodes es) at r (e ∙ sym (of_reference scopes (nodes es) at (role_there Refers h)))

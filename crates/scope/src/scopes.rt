@@ -43,10 +43,7 @@ impl<S: Scopes> Language for S {
     ghost lawful = { S.Scopes.lawful };
 
     fn find(program: &[Entry], at: usize) -> Option<usize> {
-        if at >= program.len() {
-            return None;
-        }
-        match program[at].node.kind.row().role {
+        match program.get(at)?.node.kind.row().role {
             Role::Plain => None,
             Role::Declares => Some(at),
             Role::Refers => S::seek(program, at),
