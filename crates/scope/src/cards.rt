@@ -14,7 +14,9 @@ use std::ops::Range;
 #[derive(Drop)]
 struct Lines<'a> {
     program: &'a [Entry],
+    // where the next one begins
     begin: usize,
+    // how many are to come
     left: usize,
 }
 

@@ -10,6 +10,7 @@ ghost use Rattle.scope.specs.Parts.{PartOf};
 use model::grammar::Grammar;
 use model::nodes::Entry;
 
+// A program and a place in it go as two arguments: callers have them so, and a struct of both would say no more.
 pub trait Language: Grammar {
     ghost visible: { Order };
 

@@ -10,6 +10,7 @@ use model::kinds::Kind;
 use model::nodes::{Entry, Name};
 
 // Whether the entry declares a name that is spelled so, for its last child to see.
+// One function for this and `declares_as` would take the test of kinds as an argument, and be no plainer.
 fn scopes_as(entry: &Entry, name: &Name) -> bool
     ensures { result ≡ (scopes_its_last entry.now.node.kind && alike name.now entry.now.node.name) }
 {
