@@ -24,41 +24,32 @@ loop-up-init c =
 
 pub loop-up-preserved-then-arity-between : goal.loop-up-preserved-then-arity-between
 loop-up-preserved-then-arity-between c =
-    let es = c.args.program.now in
     record {
       can = (tt, tt, omega (arith, c.in-Some.ensures.steps));
       finite = tt;
-      walking =
-          goes_past es c.args.at (entry_at es c.args.at).node.name c.requires c.loop-up.up-iterator c.next.new.self c.loop-up.between c.in-Some.up c.arity-arity.result c.in-Some.entry.now
-          c.loop-up.invariant.walking c.in-Some.ensures.steps c.arity-arity.ensures c.if-arity-between.true;
+      walking = goes_past _ _ _ c.requires _ _ _ _ _ _ c.loop-up.invariant.walking c.in-Some.ensures.steps c.arity-arity.ensures c.if-arity-between.true;
     }
 
 pub loop-up-preserved : goal.loop-up-preserved
 loop-up-preserved c =
-    let es = c.args.program.now in
-    let name = (entry_at es c.args.at).node.name in
     record {
       can = (tt, tt, omega (arith, c.in-Some.ensures.steps));
       finite = tt;
       walking = elim c.else-in_last_child.branch [
         | else-in_last_child-via-then-in_last_child+else-scopes_as w ↦
-            goes_up_unlike es c.args.at name c.requires c.loop-up.up-iterator c.next.new.self c.loop-up.between c.in-Some.up c.arity-arity.result c.in-Some.entry.now
-            c.loop-up.invariant.walking c.in-Some.ensures.steps c.arity-arity.ensures c.if-arity-between.false w.if-in_last_child.true w.scopes_as.result w.scopes_as.ensures w.if-scopes_as.false
+            goes_up_unlike _ _ _ c.requires _ _ _ _ _ _ c.loop-up.invariant.walking c.in-Some.ensures.steps c.arity-arity.ensures c.if-arity-between.false
+            w.if-in_last_child.true _ w.scopes_as.ensures w.if-scopes_as.false
         | else-in_last_child-via-else-in_last_child w ↦
-            goes_up_from_first es c.args.at name c.requires c.loop-up.up-iterator c.next.new.self c.loop-up.between c.in-Some.up c.arity-arity.result c.in-Some.entry.now
-            c.loop-up.invariant.walking c.in-Some.ensures.steps c.arity-arity.ensures c.if-arity-between.false w.if-in_last_child.false
+            goes_up_from_first _ _ _ c.requires _ _ _ _ _ _ c.loop-up.invariant.walking c.in-Some.ensures.steps c.arity-arity.ensures c.if-arity-between.false w.if-in_last_child.false
       ];
     }
 
 pub returns-then-scopes_as : goal.returns-then-scopes_as
 returns-then-scopes_as c =
-    let es = c.args.program.now in
     sym
-    (named_there tree_scopes es c.args.at
-    ∙ goes_up_to es c.args.at (entry_at es c.args.at).node.name c.requires c.loop-up.up-iterator c.next.new.self c.loop-up.between c.in-Some.up c.arity-arity.result c.in-Some.entry.now
-    c.loop-up.invariant.walking c.in-Some.ensures.steps c.arity-arity.ensures c.if-arity-between.false c.if-in_last_child.true c.scopes_as.result c.scopes_as.ensures c.if-scopes_as.true)
+    (named_there tree_scopes c.args.program.now c.args.at
+    ∙ goes_up_to _ _ _ c.requires c.loop-up.up-iterator c.next.new.self _ _ _ _ c.loop-up.invariant.walking c.in-Some.ensures.steps c.arity-arity.ensures c.if-arity-between.false
+    c.if-in_last_child.true _ c.scopes_as.ensures c.if-scopes_as.true)
 
 pub returns : goal.returns
-returns c =
-    let es = c.args.program.now in
-    sym (named_there tree_scopes es c.args.at ∙ walking_ends es c.args.at (entry_at es c.args.at).node.name c.loop-up.up-iterator c.loop-up.between c.in-None.ensures.steps.1.0 c.loop-up.invariant.walking)
+returns c = sym (named_there tree_scopes c.args.program.now c.args.at ∙ walking_ends _ _ _ _ _ c.in-None.ensures.steps.1.0 c.loop-up.invariant.walking)
