@@ -1,60 +1,24 @@
 -- Cards: the lines in turn, and the latest declaration of a name among those that have passed.
-use Rattle.std.proofs.Common.{◌≡◌, ℕ, zero, suc, ◌+◌, ◌-◌, ◌<◌, ◌≤◌, min, Bool, true, false, ◌&&◌, List, [], ◌∷◌, ◌++◌, length, get_or, drop, replicate, Some, None, Option, sym, refl, ap, ◌∙◌, ap₂, subst₂, inl, inr, arith}
-use Rattle.std.proofs.lemmas.List.{get_or_append_left, get_or-append_right, get_or-replicate, drop_all, length-drop, length-replicate}
-use Rattle.std.proofs.lemmas.Bool.{cases_lt}
+use Rattle.std.proofs.Common.{◌≡◌, ℕ, suc, ◌+◌, ◌-◌, ◌<◌, ◌≤◌, Bool, true, false, ◌&&◌, List, [], ◌∷◌, ◌++◌, length, get_or, drop, replicate, Some, None, Option, sym, refl, ap, ◌∙◌, ap₂, subst, subst₂, arith}
+use Rattle.std.proofs.lemmas.List.{get_or_append_left, get_or-append_right, get_or-replicate, length-replicate}
+use Rattle.std.specs.declared.ops.Range.{Range}
+use denote.Ref.{Bor}
 use Rattle.model.specs.declared.kinds.Kind.{Kind}
 use Rattle.model.specs.declared.nodes.Name.{Name}
 use Rattle.model.specs.declared.nodes.Node.{Node}
 use Rattle.model.specs.declared.nodes.Entry.{Entry}
 use Rattle.model.specs.Kinds.{declares}
-use Rattle.model.specs.Names.{alike, blank, node_at, kind_at, name_at, entry_at, nodes}
-use Rattle.model.specs.Forest.{Forest, nil, tree, Shape, shape, arity, first, after, size, width, grow, kinds_only}
+use Rattle.model.specs.Names.{alike, node_at, kind_at, name_at, entry_at, nodes}
+use Rattle.model.specs.Forest.{Shape, shape, arity, first, after, size, grow, kinds_only}
 use Rattle.model.specs.Scopes.{more, card_lines, card_scopes, reach_in}
 use Rattle.laws.specs.Walks.{beyond}
+use Rattle.laws.proofs.Entries.{node_of}
 use Rattle.laws.proofs.RoundTrips.{length_nodes}
-use Rattle.laws.proofs.Forests.{size_grow, size_kinds, kinds_first, kinds_after, shape_at}
-use Rattle.laws.proofs.Walks.{first_nil, after_from, beyond_more, steps_at}
+use Rattle.laws.proofs.Forests.{size_kinds, kinds_first, kinds_after, shape_at}
+use Rattle.laws.proofs.Walks.{after_from}
+use Rattle.scope.specs.declared.cards.Lines.{Lines}
+use Rattle.scope.specs.Lines.{LineOn}
 use Rattle.scope.proofs.Scoping.{reach_here, reach_past, tested}
-
--- Past trees
-
-width_size : {A : Type 0} (f : Forest A) → width f ≤ size f
-width_size nil = omega arith
-width_size (tree a cs rest) = let h = width_size rest in omega arith
-
-first_all : {A : Type 0} (k : ℕ) (f : Forest A) → width f ≤ k → first k f ≡ f
-first_all zero nil l = refl
-first_all zero (tree a cs rest) l = absurd (omega arith)
-first_all (suc k) nil l = refl
-first_all (suc k) (tree a cs rest) l = ap (tree a cs) (first_all k rest (omega arith))
-
--- no more trees than there are nodes
-pub beyond_all : (p : List Node) (i k most : ℕ) → length p ≤ most → beyond p i (min k most) ≡ beyond p i k
-beyond_all p i k most l =
-    elim (cases_lt most k) [
-      | inl h ↦
-          (let f = grow (drop i p) in
-          let w : width f ≤ most = (let a = width_size f in let b = size_grow (drop i p) in let c = length-drop i p in omega arith) in
-          let e : min k most ≡ most = omega arith in
-          ap (beyond p i) e ∙ ap (λ (g : Forest Node). i + size g) (first_all most f w ∙ sym (first_all k f (omega arith))))
-      | inr h ↦ (let e : min k most ≡ k = omega arith in ap (beyond p i) e)
-    ]
-
--- one node on, of so many trees that are wanted: as many more as it has children, as far as a count goes
-pub wanted_on : (p : List Node) (at wanted below cap most : ℕ) → at < length p → 0 < wanted → below ≡ arity (node_at p at) → length p ≤ most → most ≤ cap → beyond p (at + 1) (min (min (wanted - 1 + below) cap) most) ≡ beyond p at wanted
-wanted_on p at wanted below cap most l w b m c =
-    let e : min (min (wanted - 1 + below) cap) most ≡ min (below + (wanted - 1)) most = omega arith in
-    let n : suc (wanted - 1) ≡ wanted = omega arith in
-    ap (beyond p (at + 1)) e
-    ∙ (beyond_all p (at + 1) (below + (wanted - 1)) most m
-    ∙ (ap (λ k. beyond p (at + 1) (k + (wanted - 1))) b
-    ∙ (sym (beyond_more p (at + 1) (arity (node_at p at)) (wanted - 1))
-    ∙ (sym (steps_at p at (wanted - 1) blank l).on ∙ ap (beyond p at) n))))
-
-pub none_left : (p : List Node) (at k : ℕ) → length p ≤ at → beyond p at k ≡ at
-none_left p at k l =
-    let e = ap (λ (f : Forest Node). size f) (ap (λ (ns : List Node). first k (grow ns)) (drop_all at p l) ∙ first_nil k) in
-    omega arith
 
 -- Lines
 
@@ -66,7 +30,7 @@ module _ (p : List Node) (line : ℕ) (inside : line < length p) where
   abbrev below : Shape
   below = first (arity (node_at p line)) (shape (drop (line + 1) p))
 
-  pub next_line : beyond p line 1 ≡ line + (1 + size below)
+  next_line : beyond p line 1 ≡ line + (1 + size below)
   next_line =
       let g = grow (drop line p) in
       let e = sym (size_kinds (first 1 g)) ∙ ap (λ (f : Shape). size f) (kinds_first 1 g ∙ ap (first 1) (shape_at p line inside)) in
@@ -90,7 +54,7 @@ pub record Passed (p : List Node) (at : ℕ) (name : Name) (line left : ℕ) (la
   pub same : get_or (card_scopes (shape p)) at [] ≡ get_or (card_lines line declared (first left (shape (drop line p)))) (at - line) []
 
 module _ (p : List Node) (at : ℕ) (name : Name) (inside : at < length p) where
-  pub lines_begin : 0 < at → Passed p at name 1 (arity (node_at p 0)) None
+  lines_begin : 0 < at → Passed p at name 1 (arity (node_at p 0)) None
   lines_begin h =
       let e : at ≡ suc (at - 1) = omega arith in
       record {
@@ -109,7 +73,7 @@ module _ (p : List Node) (at : ℕ) (name : Name) (inside : at < length p) where
         let n : left ≡ suc (left - 1) = omega arith in
         w.same ∙ ap (λ (ls : List (List ℕ)). get_or ls (at - line) []) (ap (λ k. card_lines line w.declared (first k (shape (drop line p)))) n ∙ lines p line there (left - 1) w.declared)
 
-    pub own_line : at < beyond p line 1 → reach_in p name (get_or (card_scopes (shape p)) at []) ≡ latest
+    own_line : at < beyond p line 1 → reach_in p name (get_or (card_scopes (shape p)) at []) ≡ latest
     own_line l =
         let Γ = w.declared in
         let s = 1 + size (below p line there) in
@@ -136,32 +100,53 @@ module _ (p : List Node) (at : ℕ) (name : Name) (inside : at < length p) where
           same = same_there ∙ (get_or-append_right (replicate s Γ) ls s (at - line) [] (length-replicate s Γ) (omega arith) ∙ ap (λ n. get_or ls n []) i);
         }
 
-    pub line_declares : beyond p line 1 ≤ at → (declares (kind_at p line) && alike name (name_at p line)) ≡ true → Passed p at name (beyond p line 1) (left - 1) (Some line)
+    line_declares : beyond p line 1 ≤ at → (declares (kind_at p line) && alike name (name_at p line)) ≡ true → Passed p at name (beyond p line 1) (left - 1) (Some line)
     line_declares l h = on l (Some line) (sym (reach_here p name (declares (kind_at p line)) line w.declared h))
 
-    pub line_passes : beyond p line 1 ≤ at → (declares (kind_at p line) && alike name (name_at p line)) ≡ false → Passed p at name (beyond p line 1) (left - 1) latest
+    line_passes : beyond p line 1 ≤ at → (declares (kind_at p line) && alike name (name_at p line)) ≡ false → Passed p at name (beyond p line 1) (left - 1) latest
     line_passes l h = on l latest (w.latest_is ∙ sym (reach_past p name (declares (kind_at p line)) line w.declared h))
 
-  pub no_line_left : (line left : ℕ) (latest : Option ℕ) → left ≡ 0 → Passed p at name line left latest → reach_in p name (get_or (card_scopes (shape p)) at []) ≡ None
-  no_line_left line left latest z w = ap (reach_in p name) (w.same ∙ ap (λ k. get_or (card_lines line w.declared (first k (shape (drop line p)))) (at - line) []) z)
+-- The same over a row of entries, by the iterator of its lines
 
--- The same over a row of entries, one line further on
+-- the walk has come to where the iterator is
+pub record Passing (es : List Entry) (at : ℕ) (name : Name) (s : Lines) (latest : Option ℕ) : Type 0 where
+  pub same : s.program.now ≡ es
+  pub passed : Passed (nodes es) at name s.begin s.left latest
 
-module _ (es : List Entry) (at : ℕ) (name : Name) (inside : at < length es) (turns turn line next : ℕ) (latest : Option ℕ) (some : turn < turns) (e : next ≡ beyond (nodes es) line 1) (w : Passed (nodes es) at name line (turns - turn) latest) where
+pub passing_begins : (es : List Entry) (at : ℕ) (name : Name) (s : Lines) → at < length es → 0 < at → s.program.now ≡ es → s.begin ≡ 1 → s.left ≡ arity (entry_at es 0).node → Passing es at name s None
+passing_begins es at name s l some same one all =
+    record {
+      same = same;
+      passed = subst₂ (λ j k. Passed (nodes es) at name j k None) (sym one) (sym (all ∙ ap arity (node_of es 0))) (lines_begin (nodes es) at name (let z = length_nodes es in omega arith) some);
+    }
+
+module _ (es : List Entry) (at : ℕ) (name : Name) (inside : at < length es) (s t : Lines) (line : Range ℕ) (latest : Option ℕ) (w : Passing es at name s latest) (step : LineOn s t line) where
+  here : Passed (nodes es) at name line.start s.left latest
+  here = subst (λ j. Passed (nodes es) at name j s.left latest) (sym step.starts) w.passed
+
+  next_is : t.begin ≡ beyond (nodes es) line.start 1
+  next_is = step.whole ∙ (ap (λ (xs : List Entry). beyond (nodes xs) s.begin 1) w.same ∙ ap (λ j. beyond (nodes es) j 1) (sym step.starts))
+
+  one_left : 0 < s.left
+  one_left = let z = step.fewer in omega arith
+
   inside_nodes : at < length (nodes es)
   inside_nodes = let z = length_nodes es in omega arith
 
-  pub stops_in_own_line : at < next → reach_in (nodes es) name (get_or (card_scopes (shape (nodes es))) at []) ≡ latest
-  stops_in_own_line l = own_line (nodes es) at name inside_nodes line (turns - turn) latest (omega arith) w (omega arith)
+  pub stops_in_own_line : at < line.end → reach_in (nodes es) name (get_or (card_scopes (shape (nodes es))) at []) ≡ latest
+  stops_in_own_line l = own_line (nodes es) at name inside_nodes line.start s.left latest one_left here (let z = next_is in let e = step.ends in omega arith)
 
-  one_fewer : (last : Option ℕ) → Passed (nodes es) at name (beyond (nodes es) line 1) (turns - turn - 1) last → Passed (nodes es) at name next (turns - (turn + 1)) last
-  one_fewer last v = let z : turns - turn - 1 ≡ turns - (turn + 1) = omega arith in subst₂ (λ j k. Passed (nodes es) at name j k last) (sym e) z v
+  one_fewer : (last : Option ℕ) → Passed (nodes es) at name (beyond (nodes es) line.start 1) (s.left - 1) last → Passing es at name t last
+  one_fewer last v =
+      let z : s.left - 1 ≡ t.left = (let f = step.fewer in omega arith) in
+      record { same = ap (λ (b : Bor (List Entry)). b.now) step.same ∙ w.same; passed = subst₂ (λ j k. Passed (nodes es) at name j k last) (sym next_is) z v }
 
-  module _ (l : next ≤ at) (b : Bool) (h : b ≡ (declares (entry_at es line).node.kind && alike name (entry_at es line).node.name)) where
-    pub goes_on_declared : b ≡ true → Passed (nodes es) at name next (turns - (turn + 1)) (Some line)
-    goes_on_declared t =
-        one_fewer (Some line) (line_declares (nodes es) at name inside_nodes line (turns - turn) latest (omega arith) w (omega arith) (tested declares es name line b h ∙ t))
+  module _ (l : line.end ≤ at) (b : Bool) (h : b ≡ (declares (entry_at es line.start).node.kind && alike name (entry_at es line.start).node.name)) where
+    reached : beyond (nodes es) line.start 1 ≤ at
+    reached = let z = next_is in let e = step.ends in omega arith
 
-    pub goes_on_undeclared : b ≡ false → Passed (nodes es) at name next (turns - (turn + 1)) latest
-    goes_on_undeclared t =
-        one_fewer latest (line_passes (nodes es) at name inside_nodes line (turns - turn) latest (omega arith) w (omega arith) (tested declares es name line b h ∙ t))
+    pub goes_on_declared : b ≡ true → Passing es at name t (Some line.start)
+    goes_on_declared h' = one_fewer (Some line.start) (line_declares (nodes es) at name inside_nodes line.start s.left latest one_left here reached (tested declares es name line.start b h ∙ h'))
+
+    pub goes_on_undeclared : b ≡ false → Passing es at name t latest
+    goes_on_undeclared h' = one_fewer latest (line_passes (nodes es) at name inside_nodes line.start s.left latest one_left here reached (tested declares es name line.start b h ∙ h'))

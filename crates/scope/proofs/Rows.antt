@@ -1,24 +1,31 @@
--- In a program of a grammar every declaration has one of the grammar's kind rows.
-use Rattle.std.proofs.Common.{◌≡◌, ℕ, zero, suc, ◌-◌, ◌<◌, Bool, true, false, cond, not, eqb, ltb, List, [], ◌∷◌, ◌++◌, length, get_or, Option, sym, refl, ap, ◌∙◌, subst, arith}
-use Rattle.std.proofs.lemmas.List.{get_or-map, get_or_default, length-map}
+-- What is found of a name: in a program of a grammar every declaration has one of the grammar's kind rows.
+use Rattle.std.proofs.Common.{◌≡◌, ℕ, zero, suc, ◌-◌, ◌<◌, ◌≤◌, Bool, true, false, cond, not, eqb, ltb, List, [], ◌∷◌, ◌++◌, length, get_or, Some, None, Option, sym, refl, ap, ◌∙◌, subst, arith}
+use Rattle.std.proofs.lemmas.List.{get_or-map, get_or_default, get_or_past, length-map}
 use Rattle.std.proofs.lemmas.Bool.{false≢true, and_parts, not-true, ltb-true, eqb-true, cond-true}
 use Rattle.model.specs.declared.kinds.Kind.{Kind}
 use Rattle.model.specs.declared.kinds.Kind.TheVariants.{Card}
+use Rattle.model.specs.declared.kinds.KindRow.{KindRow}
 use Rattle.model.specs.declared.kinds.Role.{Role}
 use Rattle.model.specs.declared.kinds.Role.TheVariants.{Plain, Declares, Refers}
 use Rattle.model.specs.declared.kinds.Sort.{Sort}
 use Rattle.model.specs.declared.kinds.Sort.TheVariants.{Root}
 use Rattle.model.specs.declared.nodes.Node.{Node}
+use Rattle.model.specs.declared.nodes.Entry.{Entry}
 use Rattle.model.specs.Lists.{keep}
-use Rattle.model.specs.Kinds.{row, kinds, kind_number, sort_number, same_sort, role_declares, declares, child_sorts, Grammar, rows_below, allowed}
-use Rattle.model.specs.Names.{kind_at, root_of}
+use Rattle.model.specs.Kinds.{row, kinds, kind_number, sort_number, same_sort, has_name, role_named, role_declares, declares, child_sorts, Grammar, rows_below, allowed}
+use Rattle.model.specs.Table.{shown, row_of}
+use Rattle.model.specs.Names.{blank, kind_at, root_of, entry_at, nodes}
+use Rattle.model.specs.Forest.{Shape}
 use Rattle.model.specs.Fitting.{fits}
-use Rattle.model.specs.Scopes.{Order, reach}
+use Rattle.model.specs.Scopes.{Order, order_of, reach}
 use Rattle.model.specs.Rules.{Visible}
 use Rattle.model.proofs.KindTables.{by_table, every_kind, kind_back}
 use Rattle.laws.specs.Orders.{Reach, Reached}
-use Rattle.laws.proofs.Reaches.{reach_is}
+use Rattle.laws.proofs.Reaches.{reach_is, reaches_itself}
+use Rattle.laws.proofs.RoundTrips.{length_nodes}
 use Rattle.scope.specs.Finding.{Declaring, Found}
+use Rattle.scope.specs.Seeking.{sought}
+use Rattle.scope.proofs.Roles.{role_at, of_nameless, of_reference}
 
 -- the root's sort is no declaration's
 below_at : (g : Grammar) (root : Kind) (s : Sort) (k : Kind) → allowed g root s k ≡ true → declares k ≡ true → g.below root k ≡ true
@@ -78,3 +85,28 @@ found g order vis p at r e =
           let f : Reached order p at d = subst (Reach order p at) (sym e ∙ s) (reach_is order vis p at) in
           row_stands g (root_of p) (kind_at p d) (declared_below g (root_of p) (Root ∷ []) p d o.fitting f.declaration) f.declaration;
     }
+
+-- By the role of the node at the place
+
+module _ (g : Grammar) (scopes : Shape → List (List ℕ)) (vis : Visible (order_of scopes)) (es : List Entry) (at : ℕ) where
+  abbrev FoundThere : Option ℕ → Type 0
+  FoundThere r = Found g (order_of scopes) (nodes es) at r
+
+  nameless : has_name (kind_at (nodes es) at) ≡ false → FoundThere None
+  nameless h = found g (order_of scopes) vis (nodes es) at None (sym (of_nameless (order_of scopes) vis (nodes es) at h))
+
+  pub found_past : length es ≤ at → (r : Option ℕ) → r ≡ None → FoundThere r
+  found_past l r e = subst FoundThere (sym e) (nameless (ap (λ (n : Node). has_name n.kind) (get_or_past (nodes es) at blank (let z = length_nodes es in omega arith))))
+
+  module _ (e : Entry) (there : e ≡ entry_at es at) (x : KindRow) (its_row : shown x ≡ row_of e.node.kind) where
+    role_there : (r : Role) → x.role ≡ r → (row (kind_at (nodes es) at)).role ≡ r
+    role_there r h = role_at x es at r (its_row ∙ ap (λ (y : Entry). row_of y.node.kind) there) h
+
+    pub found_plain : x.role ≡ Plain → FoundThere None
+    found_plain h = nameless (ap role_named (role_there Plain h))
+
+    pub found_itself : x.role ≡ Declares → FoundThere (Some at)
+    found_itself h = found g (order_of scopes) vis (nodes es) at (Some at) (sym (reaches_itself (order_of scopes) vis (nodes es) at (ap role_declares (role_there Declares h))))
+
+    pub found_sought : x.role ≡ Refers → (r : Option ℕ) → r ≡ sought scopes (nodes es) at → FoundThere r
+    found_sought h r e = found g (order_of scopes) vis (nodes es) at r (e ∙ sym (of_reference scopes (nodes es) at (role_there Refers h)))

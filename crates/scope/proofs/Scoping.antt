@@ -11,7 +11,7 @@ use Rattle.model.specs.Scopes.{more, reach_in}
 use Rattle.laws.proofs.Entries.{node_of}
 use Rattle.scope.specs.Seeking.{sought}
 
-reach_more : (p : List Node) (a : Name) (b : Bool) (d : ℕ) (Γ : List ℕ) → reach_in p a (more b d Γ) ≡ cond (b && alike a (name_at p d)) (Some d) (reach_in p a Γ)
+pub reach_more : (p : List Node) (a : Name) (b : Bool) (d : ℕ) (Γ : List ℕ) → reach_in p a (more b d Γ) ≡ cond (b && alike a (name_at p d)) (Some d) (reach_in p a Γ)
 reach_more p a true d Γ = refl
 reach_more p a false d Γ = refl
 

@@ -1,13 +1,17 @@
 -- Trees: the scope of a name, by a walk from the name back to the root. From each node on, what follows is a row of
 -- trees; the walk counts those that stand before the one which holds the name.
-use Rattle.std.proofs.Common.{◌≡◌, ℕ, zero, suc, ◌+◌, ◌-◌, ◌<◌, ◌≤◌, Bool, true, false, cond, ◌&&◌, eqb, List, [], ◌∷◌, ◌++◌, length, get_or, drop, Some, None, sym, refl, ap, ◌∙◌, subst, inl, inr, append_assoc, add-zero, add-one, arith}
-use Rattle.std.proofs.lemmas.List.{length-append, get_or_append_left, get_or-append_right}
+use Rattle.std.proofs.Common.{◌≡◌, ℕ, zero, suc, ◌+◌, ◌-◌, ◌<◌, ◌≤◌, Bool, true, false, cond, ◌&&◌, eqb, List, [], ◌∷◌, ◌++◌, length, get_or, take, drop, Some, None, sym, refl, ap, ◌∙◌, subst, inl, inr, append_assoc, add-zero, add-one, arith}
+use Rattle.std.proofs.lemmas.List.{length-append, length-take-le, take-append-drop, get_or_append_left, get_or-append_right}
 use Rattle.std.proofs.lemmas.Bool.{cases_lt, ne_eqb}
+use Rattle.std.specs.Iterator.Adapters.{rev_source, enumerate_count}
+use Rattle.std.specs.declared.iter.Rev.{Rev}
+use Rattle.std.specs.declared.iter.Enumerate.{Enumerate}
+use Rattle.std.specs.declared.slice.Iter.{Iter}
 use Rattle.model.specs.declared.kinds.Kind.{Kind}
 use Rattle.model.specs.declared.nodes.Name.{Name}
 use Rattle.model.specs.declared.nodes.Node.{Node}
 use Rattle.model.specs.declared.nodes.Entry.{Entry}
-use Rattle.model.specs.Names.{alike, node_at, kind_at, name_at, entry_at, nodes}
+use Rattle.model.specs.Names.{alike, blank_entry, node_at, kind_at, name_at, entry_at, nodes}
 use Rattle.model.specs.Forest.{nil, tree, Shape, shape, arity, first, after, size}
 use Rattle.model.specs.Scopes.{more, scopes_its_last, tree_nodes, reach_in}
 use Rattle.laws.proofs.Entries.{node_of}
@@ -15,6 +19,7 @@ use Rattle.laws.proofs.RoundTrips.{length_nodes}
 use Rattle.laws.proofs.Forests.{shape_at}
 use Rattle.laws.proofs.Walks.{first_size}
 use Rattle.scope.proofs.Scoping.{reach_here, reach_past, tested}
+use Rattle.scope.proofs.Backward.{left, Back, Steps, up_left, one_more, there, back}
 
 -- The scopes of trees in a row
 
@@ -147,7 +152,7 @@ module _ (p : List Node) (at : ℕ) where
     pub stands : StandsIn c (at - j) (trees_from j)
     pub reaches : (Γ Λ : List ℕ) → reach_in p name (scope j Γ Λ (trees_from j) (at - j)) ≡ reach_in p name (cond (eqb c 0) Γ Λ)
 
-  pub walk_begins : (name : Name) → at < length p → Walked name at 0
+  walk_begins : (name : Name) → at < length p → Walked name at 0
   walk_begins name l =
       let a = arity (node_at p at) in
       let f = trees_from (at + 1) in
@@ -194,22 +199,22 @@ module _ (p : List Node) (at : ℕ) where
       walk_up : (passed : (Γ : List ℕ) → reach_in p name (cond (eqb c 0) Γ (more (scopes_its_last kind) j Γ)) ≡ reach_in p name Γ) → Walked name j 0
       walk_up passed = record { few = omega arith; stands = stands_at 0 (stands_first kind wants c on rest child w.stands); reaches = λ Γ Λ. in_child Γ Λ ∙ passed Γ }
 
-      pub walk_from_first : c ≡ 0 → Walked name j 0
+      walk_from_first : c ≡ 0 → Walked name j 0
       walk_from_first z = walk_up (λ Γ. ap (λ n. reach_in p name (cond (eqb n 0) Γ (more (scopes_its_last kind) j Γ))) z)
 
       last_of : 0 < c → (Γ : List ℕ) → reach_in p name (cond (eqb c 0) Γ (more (scopes_its_last kind) j Γ)) ≡ reach_in p name (more (scopes_its_last kind) j Γ)
       last_of z Γ = ap (λ b. reach_in p name (cond b Γ (more (scopes_its_last kind) j Γ))) (ne_eqb c 0 (λ e. omega arith))
 
-      pub walk_unlike : 0 < c → (scopes_its_last kind && alike name (name_at p j)) ≡ false → Walked name j 0
+      walk_unlike : 0 < c → (scopes_its_last kind && alike name (name_at p j)) ≡ false → Walked name j 0
       walk_unlike z u = walk_up (λ Γ. last_of z Γ ∙ reach_past p name (scopes_its_last kind) j Γ u)
 
-      pub walk_finds : 0 < c → (scopes_its_last kind && alike name (name_at p j)) ≡ true → reach_in p name (scope 0 [] [] (shape p) at) ≡ Some j
+      walk_finds : 0 < c → (scopes_its_last kind && alike name (name_at p j)) ≡ true → reach_in p name (scope 0 [] [] (shape p) at) ≡ Some j
       walk_finds z h =
           let s = seen j (omega arith) inside in
           ap (reach_in p name) s.same ∙ (in_child s.first_sees s.others_see ∙ (last_of z s.first_sees ∙ reach_here p name (scopes_its_last kind) j s.first_sees h))
 
     -- node j and its children stand before the name
-    pub walk_past : wants ≤ c → Walked name j (c - wants + 1)
+    walk_past : wants ≤ c → Walked name j (c - wants + 1)
     walk_past l =
         record {
           few = let q = w.few in omega arith;
@@ -223,7 +228,7 @@ module _ (p : List Node) (at : ℕ) where
         same_either true Λ = refl
         same_either false Λ = refl
 
-  pub walk_ends : (name : Name) (c : ℕ) → Walked name 0 c → reach_in p name (scope 0 [] [] (shape p) at) ≡ None
+  walk_ends : (name : Name) (c : ℕ) → Walked name 0 c → reach_in p name (scope 0 [] [] (shape p) at) ≡ None
   walk_ends name c w =
       let e : at ≡ at - 0 = omega arith in
       ap (λ i. reach_in p name (scope 0 [] [] (shape p) i)) e ∙ (w.reaches [] [] ∙ nothing (eqb c 0))
@@ -232,35 +237,62 @@ module _ (p : List Node) (at : ℕ) where
       nothing true = refl
       nothing false = refl
 
--- The same over a row of entries, one node further up
+-- The same over a row of entries, from its back
 
-module _ (es : List Entry) (at up c wants : ℕ) (some : 0 < up) (before : up ≤ at) (inside : at < length es) (name : Name) (wanted : wants ≡ arity (entry_at es (up - 1)).node) (w : Walked (nodes es) at name up c) where
-  back : up - 1 + 1 ≡ up
-  back = omega arith
+-- the walk has come to where the iterator is
+pub record Walking (es : List Entry) (at : ℕ) (name : Name) (s : Rev (Enumerate (Iter Entry))) (c : ℕ) : Type 0 where
+  pub back : Back es s
+  pub walked : Walked (nodes es) at name (length (left s)) c
 
-  there : Walked (nodes es) at name (up - 1 + 1) c
-  there = subst (λ j. Walked (nodes es) at name j c) (sym back) w
+pub walking_begins : (es : List Entry) (at : ℕ) (name : Name) (s : Rev (Enumerate (Iter Entry))) → at < length es → enumerate_count (rev_source s) ≡ 0 → left s ≡ take at es → Walking es at name s 0
+walking_begins es at name s l z e =
+    let long : at ≡ length (left s) = sym (ap (λ (xs : List Entry). length xs) e ∙ length-take-le at es (omega arith)) in
+    record {
+      back = record { counted = z; gone = drop at es; whole = sym (ap (λ (xs : List Entry). xs ++ drop at es) e ∙ take-append-drop at es) };
+      walked = subst (λ (j : ℕ). Walked (nodes es) at name j 0) long (walk_begins (nodes es) at name (let y = length_nodes es in omega arith));
+    }
 
-  wanted_there : wants ≡ arity (node_at (nodes es) (up - 1))
-  wanted_there = wanted ∙ ap arity (node_of es (up - 1))
+pub walking_ends : (es : List Entry) (at : ℕ) (name : Name) (s : Rev (Enumerate (Iter Entry))) (c : ℕ) → length (left s) ≡ 0 → Walking es at name s c → reach_in (nodes es) name (scope 0 [] [] (shape (nodes es)) at) ≡ None
+walking_ends es at name s c z w = walk_ends (nodes es) at name c (subst (λ (j : ℕ). Walked (nodes es) at name j c) z w.walked)
+
+module _ (es : List Entry) (at : ℕ) (name : Name) (inside : at < length es) (s t : Rev (Enumerate (Iter Entry))) (c up wants : ℕ) (e : Entry) (w : Walking es at name s c) (step : Steps s up e t) (wanted : wants ≡ arity e.node) where
+  was : Walked (nodes es) at name (up + 1) c
+  was = subst (λ (j : ℕ). Walked (nodes es) at name j c) (one_more es s t up e w.back step) w.walked
+
+  before : up < at
+  before = let f = was.few in omega arith
 
   inside_nodes : at < length (nodes es)
   inside_nodes = let z = length_nodes es in omega arith
 
-  pub goes_past : wants ≤ c → Walked (nodes es) at name (up - 1) (c - wants + 1)
+  there_is : e ≡ entry_at es up
+  there_is = there es s t up e w.back step blank_entry
+
+  wanted_there : wants ≡ arity (node_at (nodes es) up)
+  wanted_there = wanted ∙ ap arity (ap (λ (x : Entry). x.node) there_is ∙ node_of es up)
+
+  go_on : (d : ℕ) → Walked (nodes es) at name up d → Walking es at name t d
+  go_on d v = record { back = back es s t up e w.back step; walked = subst (λ (j : ℕ). Walked (nodes es) at name j d) (up_left es s t up e w.back step) v }
+
+  pub goes_past : wants ≤ c → Walking es at name t (c - wants + 1)
   goes_past l =
-      subst (λ a. Walked (nodes es) at name (up - 1) (c - a + 1)) (sym wanted_there)
-      (walk_past (nodes es) at name (up - 1) c (omega arith) inside_nodes there (let e = wanted_there in omega arith))
+      go_on (c - wants + 1)
+      (subst (λ a. Walked (nodes es) at name up (c - a + 1)) (sym wanted_there)
+      (walk_past (nodes es) at name up c before inside_nodes was (let z = wanted_there in omega arith)))
 
   module _ (child : c < wants) where
-    holds : c < arity (node_at (nodes es) (up - 1))
-    holds = let e = wanted_there in omega arith
+    holds : c < arity (node_at (nodes es) up)
+    holds = let z = wanted_there in omega arith
 
-    pub goes_up_from_first : c ≤ 0 → Walked (nodes es) at name (up - 1) 0
-    goes_up_from_first z = walk_from_first (nodes es) at name (up - 1) c (omega arith) inside_nodes there holds (omega arith)
+    pub goes_up_from_first : c ≤ 0 → Walking es at name t 0
+    goes_up_from_first z = go_on 0 (walk_from_first (nodes es) at name up c before inside_nodes was holds (omega arith))
 
-    pub goes_up_unlike : 0 < c → (b : Bool) → b ≡ (scopes_its_last (entry_at es (up - 1)).node.kind && alike name (entry_at es (up - 1)).node.name) → b ≡ false → Walked (nodes es) at name (up - 1) 0
-    goes_up_unlike z b e u = walk_unlike (nodes es) at name (up - 1) c (omega arith) inside_nodes there holds z (tested scopes_its_last es name (up - 1) b e ∙ u)
+    module _ (later : 0 < c) (b : Bool) (test : b ≡ (scopes_its_last e.node.kind && alike name e.node.name)) where
+      test_there : (scopes_its_last (kind_at (nodes es) up) && alike name (name_at (nodes es) up)) ≡ b
+      test_there = tested scopes_its_last es name up b (test ∙ ap (λ (x : Entry). scopes_its_last x.node.kind && alike name x.node.name) there_is)
 
-    pub goes_up_to : 0 < c → (b : Bool) → b ≡ (scopes_its_last (entry_at es (up - 1)).node.kind && alike name (entry_at es (up - 1)).node.name) → b ≡ true → reach_in (nodes es) name (scope 0 [] [] (shape (nodes es)) at) ≡ Some (up - 1)
-    goes_up_to z b e h = walk_finds (nodes es) at name (up - 1) c (omega arith) inside_nodes there holds z (tested scopes_its_last es name (up - 1) b e ∙ h)
+      pub goes_up_unlike : b ≡ false → Walking es at name t 0
+      goes_up_unlike u = go_on 0 (walk_unlike (nodes es) at name up c before inside_nodes was holds later (test_there ∙ u))
+
+      pub goes_up_to : b ≡ true → reach_in (nodes es) name (scope 0 [] [] (shape (nodes es)) at) ≡ Some up
+      goes_up_to h = walk_finds (nodes es) at name up c before inside_nodes was holds later (test_there ∙ h)

@@ -1,10 +1,9 @@
 // The language that goes by the root: cards, trees and flats in one.
 ghost use Rattle.std.specs.Prelude.{◌≡◌};
-ghost use Rattle.model.specs.Scopes.{root_scopes, root_order, by_root};
+ghost use Rattle.model.specs.Scopes.{root_scopes, by_root};
 ghost use Rattle.laws.proofs.Orders.{orders_visible_lem, part_itself};
 
-use crate::language::{Language, Part};
-use crate::scopes::{Scopes, find_by_role};
+use crate::scopes::Scopes;
 use model::grammar::{ByRoot, Cards, Flats, Trees};
 use model::kinds::Kind;
 use model::nodes::Entry;
@@ -14,6 +13,8 @@ impl Scopes for ByRoot {
 
     ghost lawful = { orders_visible_lem.by_root };
 
+    ghost part = { part_itself by_root };
+
     fn seek(program: &[Entry], at: usize) -> Option<usize> {
         match program[0].node.kind {
             Kind::Card => Cards::seek(program, at),
@@ -21,18 +22,4 @@ impl Scopes for ByRoot {
             _ => Flats::seek(program, at),
         }
     }
-}
-
-impl Language for ByRoot {
-    ghost visible = { root_order };
-
-    ghost lawful = { orders_visible_lem.by_root };
-
-    fn find(program: &[Entry], at: usize) -> Option<usize> {
-        find_by_role::<ByRoot>(program, at)
-    }
-}
-
-impl Part<ByRoot> for ByRoot {
-    ghost part = { part_itself by_root };
 }

@@ -1,11 +1,10 @@
 // Flats: a name sees every declaration of the program, the first before the others.
 ghost use Rattle.std.specs.Prelude.{◌≡◌};
-ghost use Rattle.model.specs.Scopes.{flat_scopes, flat_order};
+ghost use Rattle.model.specs.Scopes.{flat_scopes};
 ghost use Rattle.laws.proofs.Orders.{orders_visible_lem, languages_parts_lem};
 
-use crate::language::{Language, Part};
-use crate::scopes::{Scopes, declares_as, find_by_role};
-use model::grammar::{ByRoot, Flats};
+use crate::scopes::{Scopes, declares_as};
+use model::grammar::Flats;
 use model::nodes::Entry;
 
 impl Scopes for Flats {
@@ -13,27 +12,10 @@ impl Scopes for Flats {
 
     ghost lawful = { orders_visible_lem.flat };
 
+    ghost part = { languages_parts_lem.flat };
+
     fn seek(program: &[Entry], at: usize) -> Option<usize> {
         let name = program[at].node.name;
-        for place in 0..program.len() {
-            if declares_as(&program[place], &name) {
-                return Some(place);
-            }
-        }
-        None
+        program.iter().position(|entry| declares_as(entry, &name))
     }
-}
-
-impl Language for Flats {
-    ghost visible = { flat_order };
-
-    ghost lawful = { orders_visible_lem.flat };
-
-    fn find(program: &[Entry], at: usize) -> Option<usize> {
-        find_by_role::<Flats>(program, at)
-    }
-}
-
-impl Part<ByRoot> for Flats {
-    ghost part = { languages_parts_lem.flat };
 }

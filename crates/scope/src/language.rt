@@ -10,6 +10,7 @@ ghost use Rattle.scope.specs.Parts.{PartOf};
 use model::grammar::Grammar;
 use model::nodes::Entry;
 
+// A program and a place in it go as two arguments: callers have them so, and a struct of both would say no more.
 pub trait Language: Grammar {
     ghost visible: { Order };
 
@@ -24,8 +25,8 @@ pub trait Language: Grammar {
         ensures { reached.new ≡ overlaid (reaches visible (nodes program.now)) reached.old }
     {
         let count = program.len().min(reached.len());
-        for at in 0..count {
-            reached[at] = Self::find(program, at);
+        for (at, reach) in reached[..count].iter_mut().enumerate() {
+            *reach = Self::find(program, at);
         }
     }
 }

@@ -9,13 +9,17 @@ use model::nodes::Entry;
 pub fn next_tree(program: &[Entry], from: usize) -> usize
     ensures { result ≡ beyond (nodes program.now) from 1 }
 {
-    let mut at = from;
-    let mut wanted: usize = 1;
-    while wanted > 0 && at < program.len() {
-        // more than there are nodes can't come, so a sum too large to count is as good as all
-        let below = program[at].node.arity();
-        wanted = (wanted - 1).saturating_add(below).min(program.len());
-        at += 1;
+    if from > program.len() {
+        return from;
     }
-    at
+    let mut wanted: usize = 1;
+    for (passed, entry) in program[from..].iter().enumerate() {
+        if wanted == 0 {
+            return from + passed;
+        }
+        // more than there are nodes can't come, so a sum too large to count is as good as all
+        let below = entry.node.arity();
+        wanted = (wanted - 1).saturating_add(below).min(program.len());
+    }
+    program.len()
 }

@@ -1,7 +1,10 @@
-use Rattle.std.proofs.Common.{◌-◌}
-use Rattle.model.specs.Names.{nodes}
-use Rattle.scope.proofs.CardWalk.{Passed}
+use Rattle.scope.proofs.CardWalk.{Passing}
 use Rattle.scope.proofs.cards.CardsScopes.seek.Given as goal
 
-abbrev pub invariant-loop-turn : goal.invariant-loop-turn
-invariant-loop-turn l = Passed (nodes l.program) l.at l.name l.line (l._turn-end - l._turn) l.latest
+abbrev pub invariant-loop-line : goal.invariant-loop-line
+invariant-loop-line l =
+    record {
+      can : (goal.iterator-loop-line).can_next l.line-iterator;
+      finite : (goal.iterator-loop-line).is_finite l.line-iterator;
+      passing : Passing l.program l.at l.name l.line-iterator l.latest;
+    }

@@ -1,4 +1,4 @@
-use Rattle.std.proofs.Common.{◌≡◌, length, None, sym, ◌∙◌, arith}
+use Rattle.std.proofs.Common.{◌≡◌, length, take, None, sym, ◌∙◌, arith, length-take}
 use Rattle.model.specs.Names.{nodes}
 use Rattle.model.specs.Scopes.{reaches}
 use Rattle.laws.proofs.RoundTrips.{length_nodes}
@@ -10,16 +10,18 @@ pub loop-at-preserved : goal.loop-at-preserved
 loop-at-preserved g c =
     let order = g.Self.Language.visible in
     let p = nodes c.args.program.now in
-    let i = c.loop-at.at in
+    let row = take c.min-count.result c.args.reached.now in
     let n : length (reaches order p) ≡ length c.args.program.now = length_reaches order p ∙ length_nodes c.args.program.now in
-    overlay_more (reaches order p) c.args.reached.now c.loop-at.reached i None c.find.result
-    (omega (arith, n, c.loop-at-test.true, c.min-count.ensures)) (omega (arith, c.loop-at-test.true, c.min-count.ensures))
-    c.loop-at.invariant (c.find.ensures.value ∙ sym (reaches_are order g.Self.Language.lawful p i))
+    let m = length-take c.min-count.result c.args.reached.now in
+    overlay_more (reaches order p) row c.loop-at.reach-items c.loop-at.at None c.find.result
+    (omega (arith, n, m, c.loop-at-test.true, c.loop-at.auto, c.min-count.ensures)) (omega (arith, m, c.loop-at-test.true, c.loop-at.auto))
+    c.loop-at.invariant (c.find.ensures.value ∙ sym (reaches_are order g.Self.Language.lawful p c.loop-at.at))
 
 pub returns : goal.returns
 returns g c =
     let order = g.Self.Language.visible in
     let p = nodes c.args.program.now in
     let n : length (reaches order p) ≡ length c.args.program.now = length_reaches order p ∙ length_nodes c.args.program.now in
-    overlay_all (reaches order p) c.args.reached.now c.loop-at.reached c.loop-at.at
-    (omega (arith, n, c.loop-at-test.false, c.loop-at.auto.at-end, c.min-count.ensures)) c.loop-at.invariant
+    let m = length-take c.min-count.result c.args.reached.now in
+    overlay_all (reaches order p) c.args.reached.now c.loop-at.reach-items c.loop-at.at c.min-count.result
+    (omega (arith, n, c.min-count.ensures)) (omega (arith, n, m, c.loop-at-test.false, c.loop-at.auto, c.min-count.ensures)) c.loop-at.invariant

@@ -4,4 +4,4 @@ use Rattle.model.specs.Scopes.{reaches}
 use Rattle.scope.proofs.language.Language.find_all.Given as goal
 
 abbrev pub invariant-loop-at : goal.invariant-loop-at
-invariant-loop-at g l = l.reached ≡ take l.at (reaches g.Self.Language.visible (nodes l.program)) ++ drop l.at l.initial.reached
+invariant-loop-at g l = l.reach-items ≡ take l.at (reaches g.Self.Language.visible (nodes l.program)) ++ drop l.at l.initial.reach-items
