@@ -17,37 +17,42 @@ pub struct Run {
 // Room for three runs of each node of a program, with some to spare.
 const MOST_RUNS: usize = 3080;
 
+// What a stack is made in; a stack of its own would be copied to where it is used.
+pub type Room = [Run; MOST_RUNS];
+
+pub const EMPTY: Room = [Run {
+    sort: Sort::Root,
+    left: 0,
+}; MOST_RUNS];
+
 #[derive(Drop)]
-pub struct Pending {
-    runs: [Run; MOST_RUNS],
+pub struct Pending<'a> {
+    runs: &'a mut Room,
     height: usize,
 }
 
-impl Model for Pending {
-    ghost use Rattle.std.specs.Prelude.{◌≤◌};
+impl<'a> Model for Pending<'a> {
+    ghost use Rattle.std.specs.Prelude.{◌≡◌, ◌≤◌, length};
     ghost use Rattle.script.specs.Runs.{Coming, to_come};
 
     ghost Value = { Coming };
 
-    ghost view = { λ p. record { sorts = to_come p.runs p.height; height = p.height } };
+    ghost view = { λ p. record { sorts = to_come p.runs.now p.height; height = p.height } };
 
-    ghost invariant = { λ p. p.height ≤ 3080 };
+    ghost invariant = { λ p. (p.height ≤ 3080) × (length p.runs.now ≡ 3080) };
 }
 
-impl Pending {
+impl<'a> Pending<'a> {
     // A root, and nothing else yet.
-    pub fn new() -> Pending
+    pub fn for_root(runs: &'a mut Room) -> Pending<'a>
         ensures sorts { result.sorts ≡ Root ∷ [] }
         ensures height { result.height ≡ 1 }
     {
-        let root = Run {
+        runs[0] = Run {
             sort: Sort::Root,
             left: 1,
         };
-        Pending {
-            runs: [root; MOST_RUNS],
-            height: 1,
-        }
+        Pending { runs, height: 1 }
     }
 
     // Takes the first sort that is still to come.

@@ -10,7 +10,7 @@ ghost use Rattle.script.specs.Trips.{ReadBack, DraftBack};
 
 use crate::fields::place_of;
 use crate::lines::{Form, read_line};
-use crate::pending::Pending;
+use crate::pending::{self, Pending};
 use model::faults::{ReadFault, TextFault};
 use model::grammar::{Grammar, is_allowed};
 use model::kinds::Kind;
@@ -46,7 +46,8 @@ fn read_lines<G: Grammar>(form: Form, text: &[u8], row: &mut [Entry]) -> Result<
     requires { 1024 ≤ length row.old }
     ensures { Returned (rest_read G.Grammar.grammar (form_of form) None (Root ∷ []) 0 (lines text.now)) result row.old row.new }
 {
-    let mut pending = Pending::new();
+    let mut room = pending::EMPTY;
+    let mut pending = Pending::for_root(&mut room);
     let mut rest = text;
     let mut count = 0;
     let mut root: Option<Kind> = None;

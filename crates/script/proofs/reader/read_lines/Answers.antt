@@ -4,7 +4,7 @@ use Rattle.script.proofs.ReadParts.{started, head_is, rest_kept, after_end, ends
 use Rattle.script.proofs.reader.read_lines.Goals as goal
 
 pub loop-rest-init : goal.loop-rest-init
-loop-rest-init g c = (omega arith, omega (arith, c.new-pending.ensures.height), refl, started g.G.Grammar.grammar (form_of c.args.form) c.new-pending.result.sorts c.args.text.now c.new-pending.ensures.sorts)
+loop-rest-init g c = (omega arith, omega (arith, c.for_root-pending.ensures.height), refl, started g.G.Grammar.grammar (form_of c.args.form) c.for_root-pending.result.sorts c.args.text.now c.for_root-pending.ensures.sorts)
 
 pub returns-in_default : goal.returns-in_default
 returns-in_default g c =

@@ -5,8 +5,8 @@ use Rattle.script.proofs.pending.Pending.take.Given as goal
 abbrev pub invariant-loop-last : goal.invariant-loop-last
 invariant-loop-last l =
     (l.self-inside.height ≤ l.initial.self-inside.height)
-    × (to_come l.self-inside.runs l.self-inside.height ≡ to_come l.initial.self-inside.runs l.initial.self-inside.height)
-    × (length l.self-inside.runs ≡ 3080)
+    × (to_come l.self-inside.runs.now l.self-inside.height ≡ to_come l.initial.self-inside.runs.now l.initial.self-inside.height)
+    × (length l.self-inside.runs.now ≡ 3080)
 
 abbrev pub decreases-loop-last : goal.decreases-loop-last
 decreases-loop-last l = l.self-inside.height
