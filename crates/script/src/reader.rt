@@ -49,6 +49,7 @@ fn read_lines<G: Grammar>(form: Form, text: &[u8], row: &mut [Entry]) -> Result<
     let mut room = pending::EMPTY;
     let mut pending = Pending::for_root(&mut room);
     let mut rest = text;
+    // the answer, and the place in the lent row: numbers from an iterator would end with the loop
     let mut count = 0;
     let mut root: Option<Kind> = None;
     while !rest.is_empty() {
@@ -103,6 +104,8 @@ fn read_form<G: Grammar>(form: Form, text: &[u8], row: &mut [Entry]) -> Result<u
     }
     filled
 }
+
+// Scripts and drafts are two calls, since each promises its own way back; one call over both would have to say so by a trait.
 
 // Reads a script: how many entries stand at the front of the row, or why it is refused.
 // The row has at least 1,024 places. Beyond the entries it is as it was; after a refusal all places are unused.
