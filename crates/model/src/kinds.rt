@@ -337,11 +337,7 @@ impl Kind {
     pub fn is_declaration(self) -> bool
         ensures { result ≡ declares self }
     {
-        match self.row().role {
-            Role::Plain => false,
-            Role::Declares => true,
-            Role::Refers => false,
-        }
+        self.row().role == Role::Declares
     }
 }
 
@@ -350,10 +346,6 @@ impl Role {
     pub fn has_name(self) -> bool
         ensures { result ≡ role_named self }
     {
-        match self {
-            Role::Plain => false,
-            Role::Declares => true,
-            Role::Refers => true,
-        }
+        self != Role::Plain
     }
 }
