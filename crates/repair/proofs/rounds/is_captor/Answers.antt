@@ -1,13 +1,12 @@
 use Rattle.std.proofs.Common.{sym, ◌∙◌}
 use Rattle.std.proofs.lemmas.Bool.{and_left}
-use Rattle.model.specs.CodeClasses.{shown_classes}
 use Rattle.repair.specs.Rounds.{classes_of}
 use Rattle.repair.proofs.Captors.{captor_so}
 use Rattle.repair.proofs.rounds.is_captor.Goals as goal
 
 pub returns-then-leads : goal.returns-then-leads
 returns-then-leads c =
-    let cs = shown_classes c.args.classes.now in
+    let cs = c.args.classes.now in
     captor_so cs (classes_of cs c.args.reached.now) c.args.at c.captive.result c.is_some.result c.is_some.ensures c.captive.ensures (sym c.if-leads.ensures)
 
 pub returns-else-leads : goal.returns-else-leads

@@ -1,6 +1,4 @@
-use Rattle.std.proofs.Common.{sym, ◌∙◌, arith}
-use Rattle.model.specs.CodeClasses.{shown_classes}
-use Rattle.repair.proofs.Shown.{shown_together}
+use Rattle.std.proofs.Common.{sym, arith}
 use Rattle.repair.proofs.Captors.{same_as, none_more, leads_not, leads_so}
 use Rattle.repair.proofs.rounds.leads.Goals as goal
 
@@ -9,13 +7,11 @@ loop-lower-init c = λ m p q. absurd (omega arith)
 
 pub returns-then-are_together : goal.returns-then-are_together
 returns-then-are_together c =
-    let is = shown_together c.args.classes.now c.args.at c.loop-lower.lower in
-    leads_not (shown_classes c.args.classes.now) c.args.at c.loop-lower.lower c.loop-lower-test.true (sym (c.if-are_together.ensures ∙ is))
+    leads_not c.args.classes.now c.args.at c.loop-lower.lower c.loop-lower-test.true (sym c.if-are_together.ensures)
 
 pub loop-lower-preserved : goal.loop-lower-preserved
 loop-lower-preserved c =
-    let is = shown_together c.args.classes.now c.args.at c.loop-lower.lower in
-    none_more (same_as (shown_classes c.args.classes.now) c.args.at) 0 c.loop-lower.lower c.loop-lower.invariant (sym (c.if-are_together.ensures ∙ is))
+    none_more (same_as c.args.classes.now c.args.at) 0 c.loop-lower.lower c.loop-lower.invariant (sym c.if-are_together.ensures)
 
 pub returns : goal.returns
-returns c = leads_so (shown_classes c.args.classes.now) c.args.at c.loop-lower.lower c.loop-lower-test.false c.loop-lower.invariant
+returns c = leads_so c.args.classes.now c.args.at c.loop-lower.lower c.loop-lower-test.false c.loop-lower.invariant

@@ -1,6 +1,4 @@
 use Rattle.std.proofs.Common.{◌≡◌, length, get_or, None, refl, ◌∙◌}
-use Rattle.model.specs.CodeClasses.{shown_classes}
-use Rattle.repair.proofs.Shown.{shown_together, shown_long}
 use Rattle.repair.proofs.Origins.{spelled_here, spelled_past, spelled_all}
 use Rattle.repair.proofs.rounds.respell.Goals as goal
 use Rattle.repair.proofs.rounds.respell.Goals.{then-are_together, else-are_together}
@@ -10,10 +8,10 @@ loop-place-init c = refl
 
 pub loop-place-preserved : goal.loop-place-preserved
 loop-place-preserved c =
-    let cs = shown_classes c.args.classes.now in
+    let cs = c.args.classes.now in
     let own = get_or cs c.args.captor None in
-    let is = c.are_together.ensures ∙ shown_together c.args.classes.now c.args.captor c.loop-place.place in
-    let long : length cs ≡ length c.args.entries.now = shown_long c.args.classes.now ∙ c.requires.long in
+    let is = c.are_together.ensures in
+    let long : length cs ≡ length c.args.entries.now = c.requires.long in
     elim c.if-are_together.branch [
       | then-are_together w ↦
           w.entries-is
@@ -25,5 +23,5 @@ loop-place-preserved c =
 
 pub returns : goal.returns
 returns c =
-    let cs = shown_classes c.args.classes.now in
+    let cs = c.args.classes.now in
     spelled_all (get_or cs c.args.captor None) c.args.name cs c.args.entries.now c.loop-place.place c.loop-place.entries c.loop-place-test.false c.loop-place.invariant
