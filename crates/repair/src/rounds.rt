@@ -22,64 +22,54 @@ const MOST_NODES: usize = 1024;
 fn are_together(a: Option<Class>, b: Option<Class>) -> bool
     ensures { result ≡ together a b }
 {
-    match (a, b) {
-        (Some(class), Some(other)) => class.is_same(&other),
-        _ => false,
-    }
-}
-
-// Whether no lower name is of its class.
-fn leads(classes: &[Option<Class>], at: usize) -> bool
-    requires { at < length classes.now }
-    ensures { result ≡ leads_class classes.now at }
-{
-    for lower in 0..at {
-        if are_together(classes[at], classes[lower]) {
-            return false;
-        }
-    }
-    true
+    a.is_some() && a == b
 }
 
 // The class of what a name reaches.
 fn class_reached(classes: &[Option<Class>], reached: Option<usize>) -> Option<Class>
     ensures { result ≡ class_reached classes.now reached }
 {
-    match reached {
-        Some(declaration) => {
-            if declaration < classes.len() {
-                classes[declaration]
-            } else {
-                None
-            }
-        }
-        None => None,
-    }
+    *classes.get(reached?)?
 }
 
-// The lowest name of another class that reaches a declaration of the captor's.
-fn captive(classes: &[Option<Class>], reached: &[Option<usize>], captor: usize) -> Option<usize>
-    requires within { captor < length classes.now }
-    requires long { length classes.now ≤ length reached.now }
-    ensures { result ≡ lowest_captive classes.now (classes_of classes.now reached.now) captor }
-{
-    let class = classes[captor];
-    for at in 0..classes.len() {
-        let found = class_reached(classes, reached[at]);
-        if are_together(class, found) && !are_together(class, classes[at]) {
-            return Some(at);
-        }
-    }
-    None
+// What the names of a draft belong to, and what they reach at the start of a round.
+#[derive(Drop)]
+struct Names<'a> {
+    classes: &'a [Option<Class>],
+    reached: &'a [Option<usize>],
+    ghost long: { length classes.now ≤ length reached.now },
 }
 
-// Whether the name is the lowest of a class that captures another.
-fn is_captor(classes: &[Option<Class>], reached: &[Option<usize>], at: usize) -> bool
-    requires within { at < length classes.now }
-    requires long { length classes.now ≤ length reached.now }
-    ensures { result ≡ (leads_class classes.now at && captures classes.now (classes_of classes.now reached.now) at) }
-{
-    leads(classes, at) && captive(classes, reached, at).is_some()
+impl Names<'_> {
+    // Whether no lower name is of its class.
+    fn leads(&self, at: usize) -> bool
+        requires { at < length self.now.classes.now }
+        ensures { result ≡ leads_class self.now.classes.now at }
+    {
+        let class = self.classes[at];
+        !self.classes[..at]
+            .iter()
+            .any(|lower| are_together(class, *lower))
+    }
+
+    // The lowest name of another class that reaches a declaration of the captor's.
+    fn captive(&self, captor: usize) -> Option<usize>
+        requires { captor < length self.now.classes.now }
+        ensures { result ≡ lowest_captive self.now.classes.now (classes_of self.now.classes.now self.now.reached.now) captor }
+    {
+        let class = self.classes[captor];
+        self.classes.iter().zip(self.reached).position(|(own, reached)| {
+            are_together(class, class_reached(self.classes, *reached)) && !are_together(class, *own)
+        })
+    }
+
+    // Whether the name is the lowest of a class that captures another.
+    fn is_captor(&self, at: usize) -> bool
+        requires { at < length self.now.classes.now }
+        ensures { result ≡ (leads_class self.now.classes.now at && captures self.now.classes.now (classes_of self.now.classes.now self.now.reached.now) at) }
+    {
+        self.leads(at) && self.captive(at).is_some()
+    }
 }
 
 // Spells every name of the captor's class so.
@@ -89,9 +79,9 @@ fn respell(entries: &mut [Entry], classes: &[Option<Class>], captor: usize, name
     ensures { entries.new ≡ with_origins entries.old (respelled_class (slice_index_or classes.now captor None) name classes.now (nodes entries.old)) }
 {
     let class = classes[captor];
-    for place in 0..entries.len() {
+    for (place, entry) in entries.iter_mut().enumerate() {
         if are_together(class, classes[place]) {
-            entries[place].node.name = name;
+            entry.node.name = name;
         }
     }
 }
@@ -128,9 +118,13 @@ fn round<T: Language>(entries: &mut [Entry], classes: &[Option<Class>], words: &
 {
     let mut reached = [None; MOST_NODES];
     T::find_all(entries, &mut reached);
+    let names = Names {
+        classes,
+        reached: &reached,
+    };
     let mut found = false;
     for at in 0..entries.len() {
-        if is_captor(classes, &reached, at) {
+        if names.is_captor(at) {
             respell_freshly(entries, classes, at, words);
             found = true;
         }

@@ -8,7 +8,7 @@ use Rattle.repair.proofs.rounds.round.Goals as goal
 use Rattle.repair.proofs.rounds.round.Goals.{then-is_captor, else-is_captor}
 
 pub is_captor-requires : goal.is_captor-requires
-is_captor-requires g c = record { within = omega (arith, c.requires.long, c.loop-at-test.true); long = omega (arith, c.requires.long, c.requires.few, c.find_all.auto.reached) }
+is_captor-requires g c = omega (arith, c.requires.long, c.loop-at-test.true)
 
 pub respell_freshly-requires : goal.respell_freshly-requires
 respell_freshly-requires g c =
