@@ -1,14 +1,15 @@
 -- Who leads a class, and whom it captures.
-use Rattle.std.proofs.Common.{◌≡◌, ℕ, ◌<◌, ◌≤◌, Bool, true, false, cond, not, ◌&&◌, ◌||◌, List, [], ◌∷◌, length, get_or, take, is_some, Some, None, Option, sym, refl, ap, ◌∙◌, arith}
-use Rattle.std.specs.List.{list_any, position_from, zip}
-use Rattle.std.proofs.lemmas.List.{get_or-map, get_or-take, length-take-le}
-use Rattle.std.proofs.lemmas.Slice.Zip.{length-zip, get_or-zip}
+use Rattle.std.proofs.Common.{◌≡◌, ℕ, zero, suc, ◌+◌, ◌<◌, Bool, true, false, cond, not, ◌&&◌, ◌||◌, List, [], ◌∷◌, length, get_or, take, is_some, Some, None, Option, sym, refl, ap, ◌∙◌, arith}
+use Rattle.std.specs.List.{list_any, find, range_with_len}
+use Rattle.std.proofs.lemmas.List.{get_or-take, length-take-le}
+use Rattle.std.specs.Option.{option_map}
+use Rattle.std.proofs.lemmas.Iterator.Adapters.{option_map_id}
 use Rattle.model.specs.Lists.{any, first_with, is_none, counting, places}
 use Rattle.model.specs.declared.classes.Class.{Class}
 use Rattle.model.specs.Classes.{together}
-use Rattle.model.specs.Repair.{class_reached, leads, captures}
-use Rattle.repair.specs.Rounds.{classes_of, captured, lowest_captive}
-use Rattle.repair.proofs.Firsts.{any_places, first_places}
+use Rattle.model.specs.Repair.{leads, captures}
+use Rattle.repair.specs.Rounds.{captured, lowest_captive}
+use Rattle.repair.proofs.Firsts.{any_places}
 
 -- one passes exactly if there is a first that does
 pub any_first : {A : Type 0} (t : A → Bool) (xs : List A) → any t xs ≡ not (is_none (first_with t xs))
@@ -39,17 +40,14 @@ leads_is cs e l =
     (any_places (together class) (λ j. together class (get_or cs j None)) (take e cs) None 0 (λ k i h s. ap (together class) (get_or-take e cs k None (omega arith) ∙ ap (λ (j : ℕ). get_or cs j None) (omega arith)))
     ∙ ap (λ (n : ℕ). any (λ j. together class (get_or cs j None)) (counting 0 n)) long)
 
--- a name beside what it reaches: it is of another class, and reaches a declaration of the captor's
-abbrev pub caught : List (Option Class) → ℕ → Option Class × Option ℕ → Bool
-caught cs captor p = together (get_or cs captor None) (class_reached cs p.1) && not (together (get_or cs captor None) p.0)
+-- the lowest number that passes
+numbers : (a n : ℕ) → range_with_len a n ≡ counting a n
+numbers a zero = refl
+numbers a (suc n) = ap (◌∷◌ a) (numbers (a + 1) n)
 
-pub captive_is : (cs : List (Option Class)) (reached : List (Option ℕ)) (captor : ℕ) → length cs ≤ length reached → position_from (caught cs captor) 0 (zip cs reached) ≡ lowest_captive cs (classes_of cs reached) captor
-captive_is cs reached captor l =
-    let long : length (zip cs reached) ≡ length cs = length-zip cs reached ∙ omega arith in
-    first_places (caught cs captor) (captured cs (classes_of cs reached) captor) (zip cs reached) (None, None) 0
-    (λ k i h s.
-    let e : k ≡ i = omega arith in
-    ap (caught cs captor) (get_or-zip cs reached k (None, None) (omega arith) (omega arith))
-    ∙ (ap (λ (o : Option Class). together (get_or cs captor None) o && not (together (get_or cs captor None) (get_or cs k None))) (sym (get_or-map (class_reached cs) reached k None None (omega arith)))
-    ∙ ap (captured cs (classes_of cs reached) captor) e))
-    ∙ ap (λ (n : ℕ). first_with (captured cs (classes_of cs reached) captor) (counting 0 n)) long
+first_is : (t : ℕ → Bool) (xs : List ℕ) → find t xs ≡ first_with t xs
+first_is t [] = refl
+first_is t (x ∷ xs) = ap (λ (o : Option ℕ). cond (t x) (Some x) o) (first_is t xs)
+
+pub lowest_found : (t : ℕ → Bool) (n : ℕ) (o : Option ℕ) → option_map (λ x. x) o ≡ find t (range_with_len 0 n) → o ≡ first_with t (counting 0 n)
+lowest_found t n o e = sym (option_map_id o) ∙ (e ∙ (first_is t (range_with_len 0 n) ∙ ap (first_with t) (numbers 0 n)))

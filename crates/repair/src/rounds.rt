@@ -8,7 +8,7 @@ ghost use Rattle.model.specs.Classes.{together};
 ghost use Rattle.model.specs.Repair.{class_reached, leads as leads_class, captures, captors, fresh, respell as respelled_class, round as one_round, repair};
 ghost use Rattle.model.specs.Stages.{with_origins};
 ghost use Rattle.promise.specs.Rounds.{Classed};
-ghost use Rattle.repair.specs.Rounds.{classes_of, lowest_captive};
+ghost use Rattle.repair.specs.Rounds.{classes_of, captured, lowest_captive};
 
 use crate::marks::fresh_mark;
 use model::classes::Class;
@@ -52,15 +52,23 @@ impl Names<'_> {
             .any(|lower| are_together(class, *lower))
     }
 
-    // The lowest name of another class that reaches a declaration of the captor's.
+    // Whether a name is of another class than the captor, and reaches a declaration of the captor's.
+    fn is_caught(&self, at: usize, captor: usize) -> bool
+        requires within { at < length self.now.classes.now }
+        requires captor { captor < length self.now.classes.now }
+        ensures { result ≡ captured self.now.classes.now (classes_of self.now.classes.now self.now.reached.now) captor at }
+    {
+        let class = self.classes[captor];
+        let found = class_reached(self.classes, self.reached[at]);
+        are_together(class, found) && !are_together(class, self.classes[at])
+    }
+
+    // The lowest name that is caught.
     fn captive(&self, captor: usize) -> Option<usize>
         requires { captor < length self.now.classes.now }
         ensures { result ≡ lowest_captive self.now.classes.now (classes_of self.now.classes.now self.now.reached.now) captor }
     {
-        let class = self.classes[captor];
-        self.classes.iter().zip(self.reached).position(|(own, reached)| {
-            are_together(class, class_reached(self.classes, *reached)) && !are_together(class, *own)
-        })
+        (0..self.classes.len()).find(|at| self.is_caught(*at, captor))
     }
 
     // Whether the name is the lowest of a class that captures another.
