@@ -1,11 +1,8 @@
 use Rattle.std.proofs.Common.{length, ap, ◌∙◌, arith, length-set}
 use Rattle.repair.proofs.Rows.{noted}
-use Rattle.repair.proofs.Uses.{shows_none, shows_noted, shows_left_out, shows_all}
+use Rattle.repair.proofs.Uses.{shows_noted, shows_left_out, shows_all}
 use Rattle.repair.proofs.marks.note_marks.Goals as goal
 use Rattle.repair.proofs.marks.note_marks.Goals.{then-is_of_stem+then-mark-lt-NOTED, else-is_of_stem}
-
-pub loop-entry-init : goal.loop-entry-init
-loop-entry-init c = shows_none c.args.words.now 16 c.args.name.now c.requires
 
 pub loop-entry-preserved : goal.loop-entry-preserved
 loop-entry-preserved c =

@@ -1,15 +1,6 @@
-use Rattle.std.proofs.Common.{ℕ, replicate, sym, ap, ◌∙◌, arith}
+use Rattle.std.proofs.Common.{ℕ, replicate, ap, ◌∙◌, arith, rules}
 use Rattle.repair.proofs.Mends.{not_begun, few_rounds, no_captor_left, one_more_round, rounds_left}
 use Rattle.repair.proofs.rounds.repair_names.Goals as goal
-
-pub round-requires : goal.round-requires
-round-requires g c =
-    record {
-      long = omega (arith, c.requires.long, c.loop-count.auto.entries);
-      few = omega (arith, c.requires.few, c.loop-count.auto.entries);
-      wide = omega (arith, c.requires.wide, c.loop-count.auto.words);
-      clear = c.loop-count.invariant.1 ∙ ap (λ (n : ℕ). replicate n 0) (sym c.loop-count.auto.words);
-    }
 
 pub loop-count-init : goal.loop-count-init
 loop-count-init g c = (not_begun g.T.Language.visible c.args.classes.now c.args.entries.now, c.requires.clear)
@@ -43,5 +34,5 @@ returns g c =
     record {
       rounds = ended.0;
       after = ended.1;
-      clear = c.round.ensures.clear ∙ ap (λ (n : ℕ). replicate n 0) c.loop-count.auto.words;
+      clear = search rules;
     }

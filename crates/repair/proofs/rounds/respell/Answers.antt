@@ -1,10 +1,7 @@
-use Rattle.std.proofs.Common.{◌≡◌, length, get_or, None, refl, ◌∙◌}
+use Rattle.std.proofs.Common.{◌≡◌, length, get_or, None, ◌∙◌}
 use Rattle.repair.proofs.Origins.{spelled_here, spelled_past, spelled_all}
 use Rattle.repair.proofs.rounds.respell.Goals as goal
 use Rattle.repair.proofs.rounds.respell.Goals.{then-are_together, else-are_together}
-
-pub loop-place-init : goal.loop-place-init
-loop-place-init c = refl
 
 pub loop-place-preserved : goal.loop-place-preserved
 loop-place-preserved c =

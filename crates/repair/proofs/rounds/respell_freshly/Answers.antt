@@ -1,9 +1,6 @@
 use Rattle.repair.proofs.Origins.{freshly_spelled}
 use Rattle.repair.proofs.rounds.respell_freshly.Goals as goal
 
-pub returns : goal.returns
-returns c =
-    record {
-      after = freshly_spelled c.args.classes.now c.args.entries.now c.respell.new.entries c.args.captor c.marked.result c.fresh_mark-mark.result c.fresh_mark-mark.ensures.value c.marked.ensures c.respell.ensures;
-      clear = c.fresh_mark-mark.ensures.clear;
-    }
+pub returns-clause-after : goal.returns-clause-after
+returns-clause-after c =
+    freshly_spelled c.args.classes.now c.args.entries.now c.respell.new.entries c.args.captor c.marked.result c.fresh_mark-mark.result c.fresh_mark-mark.ensures.value c.marked.ensures c.respell.ensures

@@ -1,4 +1,4 @@
-use Rattle.std.proofs.Common.{◌≡◌, ℕ, length, replicate, sym, ap, ◌∙◌, subst, arith}
+use Rattle.std.proofs.Common.{◌≡◌, ℕ, length, replicate, ap, ◌∙◌, subst, arith}
 use Rattle.model.specs.Names.{nodes}
 use Rattle.model.specs.Forest.{shape}
 use Rattle.laws.proofs.RoundTrips.{length_nodes}
@@ -6,19 +6,6 @@ use Rattle.promise.proofs.Respelling.{has_turn}
 use Rattle.repair.proofs.Turns.{Turned, no_turn_yet, turn_is, turn_taken, turn_passed}
 use Rattle.repair.proofs.rounds.round.Goals as goal
 use Rattle.repair.proofs.rounds.round.Goals.{then-is_captor, else-is_captor}
-
-pub is_captor-requires : goal.is_captor-requires
-is_captor-requires g c = omega (arith, c.requires.long, c.loop-at-test.true)
-
-pub respell_freshly-requires : goal.respell_freshly-requires
-respell_freshly-requires g c =
-    record {
-      within = omega (arith, c.requires.long, c.loop-at-test.true);
-      long = omega (arith, c.requires.long, c.loop-at.auto.entries);
-      few = omega (arith, c.requires.few, c.loop-at.auto.entries);
-      wide = omega (arith, c.requires.wide, c.loop-at.auto.words);
-      clear = c.loop-at.invariant.1 ∙ ap (λ (n : ℕ). replicate n 0) (sym c.loop-at.auto.words);
-    }
 
 pub loop-at-init : goal.loop-at-init
 loop-at-init g c = (no_turn_yet c.args.classes.now c.args.entries.now _, c.requires.clear)
