@@ -94,50 +94,78 @@ fn respell(entries: &mut [Entry], classes: &[Option<Class>], captor: usize, name
     }
 }
 
-// Gives the captor's class a fresh spelling: the stem of the captor, and a mark that no name has with it.
-fn respell_freshly(
-    entries: &mut [Entry],
-    classes: &[Option<Class>],
-    captor: usize,
-    words: &mut [u64],
-)
-    requires within { captor < length classes.now }
-    requires long { length classes.now ≡ length entries.old }
-    requires few { length entries.old ≤ 1024 }
-    requires wide { 16 ≤ length words.old }
-    requires clear { words.old ≡ replicate (length words.old) 0 }
-    ensures after { entries.new ≡ with_origins entries.old (respelled_class (slice_index_or classes.now captor None) (fresh (name_at (nodes entries.old) captor) (nodes entries.old)) classes.now (nodes entries.old)) }
-    ensures clear { words.new ≡ replicate (length words.old) 0 }
-{
-    let name = entries[captor].node.name;
-    let mark = fresh_mark(entries, &name, words);
-    respell(entries, classes, captor, name.marked(mark));
+// A draft under repair: its entries, the class of each, and a lent row for marks, zero between two searches.
+#[derive(Drop)]
+struct Draft<'a> {
+    entries: &'a mut [Entry],
+    classes: &'a [Option<Class>],
+    words: &'a mut [u64],
+    ghost long: { length classes.now ≡ length entries.now },
+    ghost few: { length entries.now ≤ 1024 },
+    ghost wide: { 16 ≤ length words.now },
+    ghost clear: { words.now ≡ replicate (length words.now) 0 },
 }
 
-// One round: all captors are judged by what the names reach at its start. Whether there was one.
-fn round<T: Language>(entries: &mut [Entry], classes: &[Option<Class>], words: &mut [u64]) -> bool
-    requires long { length classes.now ≡ length entries.old }
-    requires few { length entries.old ≤ 1024 }
-    requires wide { 16 ≤ length words.old }
-    requires clear { words.old ≡ replicate (length words.old) 0 }
-    ensures found { result ≡ not (empty (captors (T.Language.visible (shape (nodes entries.old))) classes.now (nodes entries.old))) }
-    ensures after { entries.new ≡ with_origins entries.old (one_round (T.Language.visible (shape (nodes entries.old))) classes.now (nodes entries.old)) }
-    ensures clear { words.new ≡ replicate (length words.old) 0 }
-{
-    let mut reached = [None; MOST_NODES];
-    T::find_all(entries, &mut reached);
-    let names = Names {
-        classes,
-        reached: &reached,
-    };
-    let mut found = false;
-    for at in 0..entries.len() {
-        if names.is_captor(at) {
-            respell_freshly(entries, classes, at, words);
-            found = true;
-        }
+impl Draft<'_> {
+    ghost use Rattle.repair.specs.Drafts.{SameRows};
+
+    // Gives the captor's class a fresh spelling: the stem of the captor, and a mark that no name has with it.
+    fn respell_freshly(&mut self, captor: usize)
+        requires { captor < length self.old.classes.now }
+        ensures after { self.new.entries.now ≡ with_origins self.old.entries.now (respelled_class (slice_index_or self.old.classes.now captor None) (fresh (name_at (nodes self.old.entries.now) captor) (nodes self.old.entries.now)) self.old.classes.now (nodes self.old.entries.now)) }
+        ensures same_entries { self.new.entries.ghost_name ≡ self.old.entries.ghost_name }
+        ensures same_classes { self.new.classes ≡ self.old.classes }
+        ensures same_words { self.new.words.ghost_name ≡ self.old.words.ghost_name }
+    {
+        let entries = &mut *self.entries;
+        let name = entries[captor].node.name;
+        let mark = fresh_mark(entries, &name, self.words);
+        respell(entries, self.classes, captor, name.marked(mark));
     }
-    found
+
+    // One round: all captors are judged by what the names reach at its start. Whether there was one.
+    fn round<T: Language>(&mut self) -> bool
+        ensures found { result ≡ not (empty (captors (T.Language.visible (shape (nodes self.old.entries.now))) self.old.classes.now (nodes self.old.entries.now))) }
+        ensures after { self.new.entries.now ≡ with_origins self.old.entries.now (one_round (T.Language.visible (shape (nodes self.old.entries.now))) self.old.classes.now (nodes self.old.entries.now)) }
+        ensures same_entries { self.new.entries.ghost_name ≡ self.old.entries.ghost_name }
+        ensures same_classes { self.new.classes ≡ self.old.classes }
+        ensures same_words { self.new.words.ghost_name ≡ self.old.words.ghost_name }
+    {
+        let mut reached = [None; MOST_NODES];
+        let entries = &mut *self.entries;
+        T::find_all(entries, &mut reached);
+        let names = Names {
+            classes: self.classes,
+            reached: &reached,
+        };
+        let mut found = false;
+        for at in 0..self.entries.len() {
+            if names.is_captor(at) {
+                self.respell_freshly(at);
+                found = true;
+            }
+        }
+        found
+    }
+
+    // Goes on in rounds until one finds no captor, and answers how many found one.
+    fn repair<T: Language>(&mut self) -> usize
+        requires { Classed self.old.classes.now (nodes self.old.entries.now) }
+        ensures rounds { result ≡ (repair (T.Language.visible (shape (nodes self.old.entries.now))) self.old.classes.now (nodes self.old.entries.now)).rounds }
+        ensures after { self.new.entries.now ≡ with_origins self.old.entries.now (repair (T.Language.visible (shape (nodes self.old.entries.now))) self.old.classes.now (nodes self.old.entries.now)).program }
+        ensures same_entries { self.new.entries.ghost_name ≡ self.old.entries.ghost_name }
+        ensures same_classes { self.new.classes ≡ self.old.classes }
+        ensures same_words { self.new.words.ghost_name ≡ self.old.words.ghost_name }
+    {
+        let mut count: usize = 0;
+        let rounds = loop {
+            if !self.round::<T>() {
+                break count;
+            }
+            count += 1;
+        };
+        rounds
+    }
 }
 
 // Goes on in rounds until one finds no captor, and answers how many found one.
@@ -155,12 +183,10 @@ pub fn repair_names<T: Language>(
     ensures after { entries.new ≡ with_origins entries.old (repair (T.Language.visible (shape (nodes entries.old))) classes.now (nodes entries.old)).program }
     ensures clear { words.new ≡ replicate (length words.old) 0 }
 {
-    let mut count: usize = 0;
-    let rounds = loop {
-        if !round::<T>(entries, classes, words) {
-            break count;
-        }
-        count += 1;
+    let mut draft = Draft {
+        entries,
+        classes,
+        words,
     };
-    rounds
+    draft.repair::<T>()
 }

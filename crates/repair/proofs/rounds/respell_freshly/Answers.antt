@@ -1,6 +1,0 @@
-use Rattle.repair.proofs.Origins.{freshly_spelled}
-use Rattle.repair.proofs.rounds.respell_freshly.Goals as goal
-
-pub returns-clause-after : goal.returns-clause-after
-returns-clause-after c =
-    freshly_spelled c.args.classes.now c.args.entries.now c.respell.new.entries c.args.captor c.marked.result c.fresh_mark-mark.result c.fresh_mark-mark.ensures.value c.marked.ensures c.respell.ensures
