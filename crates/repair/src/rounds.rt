@@ -113,9 +113,7 @@ impl Draft<'_> {
     fn respell_freshly(&mut self, captor: usize)
         requires { captor < length self.old.classes.now }
         ensures after { self.new.entries.now ≡ with_origins self.old.entries.now (respelled_class (slice_index_or self.old.classes.now captor None) (fresh (name_at (nodes self.old.entries.now) captor) (nodes self.old.entries.now)) self.old.classes.now (nodes self.old.entries.now)) }
-        ensures same_entries { self.new.entries.ghost_name ≡ self.old.entries.ghost_name }
-        ensures same_classes { self.new.classes ≡ self.old.classes }
-        ensures same_words { self.new.words.ghost_name ≡ self.old.words.ghost_name }
+        ensures rows { SameRows self.old self.new }
     {
         let entries = &mut *self.entries;
         let name = entries[captor].node.name;
@@ -127,9 +125,7 @@ impl Draft<'_> {
     fn round<T: Language>(&mut self) -> bool
         ensures found { result ≡ not (empty (captors (T.Language.visible (shape (nodes self.old.entries.now))) self.old.classes.now (nodes self.old.entries.now))) }
         ensures after { self.new.entries.now ≡ with_origins self.old.entries.now (one_round (T.Language.visible (shape (nodes self.old.entries.now))) self.old.classes.now (nodes self.old.entries.now)) }
-        ensures same_entries { self.new.entries.ghost_name ≡ self.old.entries.ghost_name }
-        ensures same_classes { self.new.classes ≡ self.old.classes }
-        ensures same_words { self.new.words.ghost_name ≡ self.old.words.ghost_name }
+        ensures rows { SameRows self.old self.new }
     {
         let mut reached = [None; MOST_NODES];
         let entries = &mut *self.entries;
@@ -153,9 +149,7 @@ impl Draft<'_> {
         requires { Classed self.old.classes.now (nodes self.old.entries.now) }
         ensures rounds { result ≡ (repair (T.Language.visible (shape (nodes self.old.entries.now))) self.old.classes.now (nodes self.old.entries.now)).rounds }
         ensures after { self.new.entries.now ≡ with_origins self.old.entries.now (repair (T.Language.visible (shape (nodes self.old.entries.now))) self.old.classes.now (nodes self.old.entries.now)).program }
-        ensures same_entries { self.new.entries.ghost_name ≡ self.old.entries.ghost_name }
-        ensures same_classes { self.new.classes ≡ self.old.classes }
-        ensures same_words { self.new.words.ghost_name ≡ self.old.words.ghost_name }
+        ensures rows { SameRows self.old self.new }
     {
         let mut count: usize = 0;
         let rounds = loop {

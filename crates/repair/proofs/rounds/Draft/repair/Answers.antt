@@ -1,5 +1,6 @@
-use Rattle.std.proofs.Common.{refl, ◌∙◌, arith}
+use Rattle.std.proofs.Common.{refl, arith}
 use Rattle.repair.proofs.Mends.{not_begun, few_rounds, no_captor_left, one_more_round, rounds_left}
+use Rattle.repair.proofs.Turns.{rows_on}
 use Rattle.repair.proofs.rounds.Draft.repair.Goals as goal
 
 pub loop-count-init : goal.loop-count-init
@@ -8,10 +9,9 @@ loop-count-init g c = (not_begun g.T.Language.visible c.args.self.now.classes.no
 pub loop-count-preserved : goal.loop-count-preserved
 loop-count-preserved g c =
     let found = rw c.loop-count.invariant.1.1 at c.if-not-round.ensures.found in
-    let after = rw c.loop-count.invariant.1.1 at c.round.ensures.after in
-    let before = c.loop-count.invariant.1 in (
+    let after = rw c.loop-count.invariant.1.1 at c.round.ensures.after in (
       one_more_round g.T.Language.visible g.T.Language.lawful c.args.self.now.classes.now c.args.self.now.entries.now c.requires c.loop-count.count c.loop-count.self.entries.now c.loop-count.invariant.0 found c.round.new.self.entries.now after,
-      (c.round.ensures.same_entries ∙ before.0, c.round.ensures.same_classes ∙ before.1, c.round.ensures.same_words ∙ before.2),
+      rows_on c.args.self.now c.loop-count.self c.round.new.self c.round.new.self c.loop-count.invariant.1 c.round.ensures.rows refl,
     )
 
 pub overflow_add-count : goal.overflow_add-count
@@ -41,7 +41,5 @@ returns g c =
     record {
       rounds = ended.0;
       after = ended.1;
-      same_entries = c.round.ensures.same_entries ∙ c.loop-count.invariant.1.0;
-      same_classes = c.round.ensures.same_classes ∙ c.loop-count.invariant.1.1;
-      same_words = c.round.ensures.same_words ∙ c.loop-count.invariant.1.2;
+      rows = rows_on c.args.self.now c.loop-count.self c.round.new.self c.round.new.self c.loop-count.invariant.1 c.round.ensures.rows refl;
     }

@@ -24,7 +24,7 @@ loop-at-preserved g c =
       | then-is_captor w ↦
           let spelled : w.respell_freshly.new.self.entries.now ≡ with_origins so_far.entries.now (respelled_at cs c.loop-at.at (nodes so_far.entries.now)) = rw c.loop-at.invariant.1.1 at w.respell_freshly.ensures.after in (
             turn_taken cs es _ c.loop-at.at so_far.entries.now c.loop-at.found c.loop-at.invariant.0 _ _ _ (turn ∙ w.if-is_captor.true) spelled (ap (λ (d : Draft). d.entries.now) w.self-is) w.found-is,
-            rows_on draft so_far _ _ c.loop-at.invariant.1 (w.respell_freshly.ensures.same_entries, w.respell_freshly.ensures.same_classes, w.respell_freshly.ensures.same_words) w.self-is,
+            rows_on draft so_far _ _ c.loop-at.invariant.1 w.respell_freshly.ensures.rows w.self-is,
           )
       | else-is_captor w ↦ (
         turn_passed cs es _ c.loop-at.at so_far.entries.now c.loop-at.found c.loop-at.invariant.0 _ _ (turn ∙ w.if-is_captor.false) (ap (λ (d : Draft). d.entries.now) w.self-is) w.found-is,
@@ -38,4 +38,4 @@ returns g c =
     let cs = c.args.self.now.classes.now in
     let all : c.loop-at.at ≡ length (nodes es) = omega (arith, length_nodes es, c.loop-at-test.false, c.loop-at.auto.at-end) in
     let turned = subst (λ (k : ℕ). Turned cs es (has_turn (g.T.Language.visible (shape (nodes es))) cs (nodes es)) k c.loop-at.self.entries.now c.loop-at.found) all c.loop-at.invariant.0 in
-    record { found = turned.some; after = turned.entries; same_entries = c.loop-at.invariant.1.0; same_classes = c.loop-at.invariant.1.1; same_words = c.loop-at.invariant.1.2 }
+    record { found = turned.some; after = turned.entries; rows = c.loop-at.invariant.1 }

@@ -1,4 +1,3 @@
-use Rattle.std.proofs.Common.{◌≡◌}
 use Rattle.model.specs.Names.{nodes}
 use Rattle.model.specs.Forest.{shape}
 use Rattle.promise.proofs.Respelling.{has_turn}
