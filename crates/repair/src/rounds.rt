@@ -80,20 +80,6 @@ impl Names<'_> {
     }
 }
 
-// Spells every name of the captor's class so.
-fn respell(entries: &mut [Entry], classes: &[Option<Class>], captor: usize, name: Name)
-    requires within { captor < length classes.now }
-    requires long { length classes.now ≡ length entries.old }
-    ensures { entries.new ≡ with_origins entries.old (respelled_class (slice_index_or classes.now captor None) name classes.now (nodes entries.old)) }
-{
-    let class = classes[captor];
-    for (place, entry) in entries.iter_mut().enumerate() {
-        if are_together(class, classes[place]) {
-            entry.node.name = name;
-        }
-    }
-}
-
 // A draft under repair: its entries, the class of each, and a lent row for marks, zero between two searches.
 #[derive(Drop)]
 struct Draft<'a> {
@@ -109,16 +95,33 @@ struct Draft<'a> {
 impl Draft<'_> {
     ghost use Rattle.repair.specs.Drafts.{SameRows};
 
+    // Spells every name of the captor's class so.
+    fn respell(&mut self, captor: usize, name: Name)
+        requires { captor < length self.old.classes.now }
+        ensures after { self.new.entries.now ≡ with_origins self.old.entries.now (respelled_class (slice_index_or self.old.classes.now captor None) name self.old.classes.now (nodes self.old.entries.now)) }
+        ensures rows { SameRows self.old self.new }
+    {
+        let classes = self.classes;
+        let class = classes[captor];
+        // No `zip`: after an adapter of `iter_mut` nothing is known of what was written.
+        for (place, entry) in self.entries.iter_mut().enumerate() {
+            if are_together(class, classes[place]) {
+                entry.node.name = name;
+            }
+        }
+    }
+
     // Gives the captor's class a fresh spelling: the stem of the captor, and a mark that no name has with it.
     fn respell_freshly(&mut self, captor: usize)
         requires { captor < length self.old.classes.now }
         ensures after { self.new.entries.now ≡ with_origins self.old.entries.now (respelled_class (slice_index_or self.old.classes.now captor None) (fresh (name_at (nodes self.old.entries.now) captor) (nodes self.old.entries.now)) self.old.classes.now (nodes self.old.entries.now)) }
         ensures rows { SameRows self.old self.new }
     {
+        // Read through a loan of its own: after a reading through the field the check forgets the entries.
         let entries = &mut *self.entries;
         let name = entries[captor].node.name;
         let mark = fresh_mark(entries, &name, self.words);
-        respell(entries, self.classes, captor, name.marked(mark));
+        self.respell(captor, name.marked(mark));
     }
 
     // One round: all captors are judged by what the names reach at its start. Whether there was one.
@@ -128,6 +131,7 @@ impl Draft<'_> {
         ensures rows { SameRows self.old self.new }
     {
         let mut reached = [None; MOST_NODES];
+        // As above.
         let entries = &mut *self.entries;
         T::find_all(entries, &mut reached);
         let names = Names {
@@ -135,6 +139,7 @@ impl Draft<'_> {
             reached: &reached,
         };
         let mut found = false;
+        // A count, since no iterator may hold the entries while a class of them is respelled.
         for at in 0..self.entries.len() {
             if names.is_captor(at) {
                 self.respell_freshly(at);
