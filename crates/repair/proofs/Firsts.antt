@@ -1,6 +1,6 @@
 -- The first number of a count that passes a test.
-use Rattle.std.proofs.Common.{◌≡◌, ℕ, zero, suc, ◌+◌, ◌-◌, ◌<◌, ◌≤◌, Bool, true, false, cond, ◌||◌, List, [], ◌∷◌, length, get_or, Some, None, Option, sym, refl, ap, ap₂, ◌∙◌, subst, ⊎_elim, arith}
-use Rattle.std.specs.List.{list_any, position_from}
+use Rattle.std.proofs.Common.{◌≡◌, ℕ, zero, suc, ◌+◌, ◌-◌, ◌<◌, ◌≤◌, Bool, true, false, ◌||◌, List, [], ◌∷◌, length, get_or, Some, None, sym, refl, ap, ap₂, ◌∙◌, subst, ⊎_elim, arith}
+use Rattle.std.specs.List.{list_any}
 use Rattle.std.proofs.lemmas.Bool.{cases_eq, cond-true, cond-false}
 use Rattle.model.specs.Lists.{any, first_with, counting}
 use Rattle.laws.proofs.Reaches.{Finding, finding, counting_at, length_counting}
@@ -58,7 +58,3 @@ module _ (t : ℕ → Bool) where
 pub any_places : {A : Type 0} (t : A → Bool) (u : ℕ → Bool) (xs : List A) (d : A) (at : ℕ) → ((k i : ℕ) → k < length xs → i ≡ at + k → t (get_or xs k d) ≡ u i) → list_any t xs ≡ any u (counting at (length xs))
 any_places t u [] d at h = refl
 any_places t u (x ∷ xs) d at h = ap₂ (λ (a b : Bool). a || b) (h 0 at (omega arith) (omega arith)) (any_places t u xs d (at + 1) (λ k i l e. h (suc k) i (omega arith) (omega arith)))
-
-pub first_places : {A : Type 0} (t : A → Bool) (u : ℕ → Bool) (xs : List A) (d : A) (at : ℕ) → ((k i : ℕ) → k < length xs → i ≡ at + k → t (get_or xs k d) ≡ u i) → position_from t at xs ≡ first_with u (counting at (length xs))
-first_places t u [] d at h = refl
-first_places t u (x ∷ xs) d at h = ap₂ (λ (b : Bool) (o : Option ℕ). cond b (Some at) o) (h 0 at (omega arith) (omega arith)) (first_places t u xs d (at + 1) (λ k i l e. h (suc k) i (omega arith) (omega arith)))

@@ -1,10 +1,10 @@
 -- Marks as bits of a row of words.
-use Rattle.std.proofs.Common.{◌≡◌, ℕ, ◌+◌, ◌-◌, ◌*◌, ◌/◌, ◌%◌, ◌^◌, ◌<◌, ◌≤◌, Bool, true, false, not, ◌||◌, eqb, List, length, get_or, set, replicate, Some, None, sym, refl, ap, ap₂, ◌∙◌, subst, ⊎_elim, w64, arith}
+use Rattle.std.proofs.Common.{◌≡◌, ℕ, ◌+◌, ◌-◌, ◌*◌, ◌/◌, ◌%◌, ◌^◌, ◌<◌, ◌≤◌, Bool, true, false, not, ◌||◌, eqb, List, length, get_or, set, Some, None, sym, refl, ap, ap₂, ◌∙◌, subst, ⊎_elim, w64, arith}
 use mathlib.Core.Bool.{or-false}
 use Rattle.std.specs.Int.RustNames.{bit_or}
 use Rattle.std.specs.Int.{from_bool, trailing_ones}
 use Rattle.std.proofs.lemmas.Nat.{or_lt}
-use Rattle.std.proofs.lemmas.List.{get_or-replicate, get_or_past, length-replicate, get_or-set_same, get_or-set_other}
+use Rattle.std.proofs.lemmas.List.{get_or-set_same, get_or-set_other}
 use Rattle.std.proofs.lemmas.Bool.{cases_eq, cases_lt, eq-eqb, ne_eqb, eqb-true, eqb-false, not_from_true, not_from_false, or_cases, or_parts}
 use Rattle.model.specs.MarkRow.{bit_at}
 use Rattle.repair.specs.Marks.{lowest_free}
@@ -21,14 +21,6 @@ placed ws i j l =
     let p : (i * 64 + j) / 64 ≡ i = omega arith in
     let q : (i * 64 + j) % 64 ≡ j = omega arith in
     in_word ws (i * 64 + j) ∙ (ap (λ (a : ℕ). bit (get_or ws a 0) ((i * 64 + j) % 64)) p ∙ ap (bit (get_or ws i 0)) q)
-
-zeros : (n i : ℕ) → get_or {A = ℕ} (replicate n 0) i 0 ≡ 0
-zeros n i = ⊎_elim (get_or-replicate n i 0 0) (λ (h : n ≤ i). get_or_past {X = ℕ} (replicate n 0) i 0 (omega (arith, length-replicate {A = ℕ} n 0))) (cases_lt i n)
-
--- no mark is noted in a row of zeros
-pub none_noted : (ws : List ℕ) (n : ℕ) → ws ≡ replicate n 0 → (m : ℕ) → bit_at ws m ≡ false
-none_noted ws n e m =
-    ap (λ l. bit_at l m) e ∙ (in_word (replicate n 0) m ∙ (ap (λ (w : ℕ). bit w (m % 64)) (zeros n (m / 64)) ∙ bit_of_zero (m % 64)))
 
 -- one mark more is noted, and no other
 abbrev pub Notes : List ℕ → ℕ → List ℕ → Type 0

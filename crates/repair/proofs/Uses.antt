@@ -1,5 +1,5 @@
 -- Which entries use a mark with a stem, and what a row shows of them.
-use Rattle.std.proofs.Common.{◌≡◌, ℕ, ◌+◌, ◌<◌, ◌≤◌, Bool, true, false, cond, ◌&&◌, ◌||◌, eqb, ◌⊎◌, List, [], ◌∷◌, map, length, get_or, take, replicate, sym, refl, ap, ◌∙◌, ap₂, ⊎_elim, arith}
+use Rattle.std.proofs.Common.{◌≡◌, ℕ, ◌+◌, ◌<◌, ◌≤◌, Bool, true, false, cond, ◌&&◌, ◌||◌, eqb, ◌⊎◌, List, [], ◌∷◌, map, length, get_or, take, sym, refl, ap, ◌∙◌, ap₂, ⊎_elim, arith}
 use mathlib.Core.Bool.{or-false}
 use lib.ListN.{length-map}
 use Rattle.std.specs.List.{list_any}
@@ -15,7 +15,7 @@ use Rattle.model.specs.MarkRow.{bit_at, Shows}
 use Rattle.laws.proofs.RoundTrips.{length_nodes}
 use Rattle.promise.proofs.Lists.{length_keep}
 use Rattle.repair.specs.Marks.{of_stem}
-use Rattle.repair.proofs.Rows.{Notes, none_noted}
+use Rattle.repair.proofs.Rows.{Notes}
 
 -- the entry's name has the stem and the mark
 abbrev pub uses : Name → ℕ → Entry → Bool
@@ -41,9 +41,6 @@ marks_few a es =
 -- the row shows the marks that the entries use
 abbrev pub ShowsUses : List ℕ → Name → List Entry → Type 0
 ShowsUses ws a es = (m : ℕ) → m < 1024 → bit_at ws m ≡ list_any (uses a m) es
-
-pub shows_none : (ws : List ℕ) (n : ℕ) (a : Name) → ws ≡ replicate n 0 → ShowsUses ws a []
-shows_none ws n a e m l = none_noted ws n e m
 
 -- one entry more; whether it is of the stem is r
 module _ (ws vs : List ℕ) (a : Name) (es : List Entry) (i : ℕ) (d : Entry) (r : Bool) (here : i < length es) (shown : ShowsUses ws a (take i es)) (is : r ≡ of_stem a (get_or es i d).node) where
