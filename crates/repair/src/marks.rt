@@ -16,6 +16,8 @@ const WORDS: usize = 16;
 const NOTED: u16 = 1024;
 
 // A row in use: whoever has lent the words finds them zero again, whichever way the search is left.
+// What notes and reads marks takes the words: of the row each method would have to promise that it
+// still holds the same ones.
 struct MarkRow<'a> {
     words: &'a mut [u64; WORDS],
 }

@@ -117,7 +117,7 @@ impl Draft<'_> {
         ensures after { self.new.entries.now ≡ with_origins self.old.entries.now (respelled_class (slice_index_or self.old.classes.now captor None) (fresh (name_at (nodes self.old.entries.now) captor) (nodes self.old.entries.now)) self.old.classes.now (nodes self.old.entries.now)) }
         ensures rows { SameRows self.old self.new }
     {
-        // Read through a loan of its own: after a reading through the field the check forgets the entries.
+        // Lent from a variable: of entries lent from the field only their number is known afterwards.
         let entries = &mut *self.entries;
         let name = entries[captor].node.name;
         let mark = fresh_mark(entries, &name, self.words);
@@ -131,7 +131,7 @@ impl Draft<'_> {
         ensures rows { SameRows self.old self.new }
     {
         let mut reached = [None; MOST_NODES];
-        // As above.
+        // Lent from a variable, as above.
         let entries = &mut *self.entries;
         T::find_all(entries, &mut reached);
         let names = Names {
