@@ -1,14 +1,15 @@
 -- Who leads a class, and whom it captures.
-use Rattle.std.proofs.Common.{◌≡◌, ℕ, ◌+◌, ◌<◌, ◌≤◌, Bool, true, false, cond, not, ◌&&◌, ◌||◌, List, [], ◌∷◌, length, get_or, is_some, Some, None, Option, sym, refl, ap, ◌∙◌, ap₂, ⊎_elim, arith}
-use Rattle.std.proofs.lemmas.List.{get_or-map, get_or_past}
-use Rattle.std.proofs.lemmas.Bool.{cases_lt, and_from, and_left, and_right, not_from_true, not_from_false}
+use Rattle.std.proofs.Common.{◌≡◌, ℕ, zero, suc, ◌+◌, ◌<◌, Bool, true, false, cond, not, ◌&&◌, ◌||◌, List, [], ◌∷◌, length, get_or, take, is_some, Some, None, Option, sym, refl, ap, ◌∙◌, arith}
+use Rattle.std.specs.List.{list_any, find, range_with_len}
+use Rattle.std.proofs.lemmas.List.{get_or-take, length-take-le}
+use Rattle.std.specs.Option.{option_map}
+use Rattle.std.proofs.lemmas.Iterator.Adapters.{option_map_id}
 use Rattle.model.specs.Lists.{any, first_with, is_none, counting, places}
 use Rattle.model.specs.declared.classes.Class.{Class}
 use Rattle.model.specs.Classes.{together}
-use Rattle.model.specs.Repair.{class_reached, leads, captures}
-use Rattle.promise.proofs.Lists.{any_count_at, first_none}
-use Rattle.repair.specs.Rounds.{classes_of, captured, lowest_captive}
-use Rattle.repair.proofs.Firsts.{NoneFrom, none_found}
+use Rattle.model.specs.Repair.{leads, captures}
+use Rattle.repair.specs.Rounds.{captured, lowest_captive}
+use Rattle.repair.proofs.Firsts.{any_places}
 
 -- one passes exactly if there is a first that does
 pub any_first : {A : Type 0} (t : A → Bool) (xs : List A) → any t xs ≡ not (is_none (first_with t xs))
@@ -27,41 +28,26 @@ some_not_none (Some x) = refl
 captures_some : (cs rs : List (Option Class)) (captor : ℕ) (o : Option ℕ) → o ≡ lowest_captive cs rs captor → is_some o ≡ captures cs rs captor
 captures_some cs rs captor o e = some_not_none o ∙ (ap (λ (f : Option ℕ). not (is_none f)) e ∙ sym (any_first (captured cs rs captor) (places cs)))
 
-pub none_more : (t : ℕ → Bool) (a b : ℕ) → NoneFrom t a b → t b ≡ false → NoneFrom t a (b + 1)
-none_more t a b none e m l h = ⊎_elim (λ p. none m l p) (λ p. let q : m ≡ b = omega arith in ap t q ∙ e) (cases_lt m b)
-
 pub captor_so : (cs rs : List (Option Class)) (captor : ℕ) (o : Option ℕ) (r : Bool) → r ≡ is_some o → o ≡ lowest_captive cs rs captor → leads cs captor ≡ true → r ≡ (leads cs captor && captures cs rs captor)
 captor_so cs rs captor o r is e h = (is ∙ captures_some cs rs captor o e) ∙ ap (λ (b : Bool). b && captures cs rs captor) (sym h)
 
--- Leads
+-- no name before it is of the class
+pub leads_is : (cs : List (Option Class)) (e : ℕ) → e < length cs → not (list_any (together (get_or cs e None)) (take e cs)) ≡ leads cs e
+leads_is cs e l =
+    let class = get_or cs e None in
+    let long : length (take e cs) ≡ e = length-take-le e cs (omega arith) in
+    ap not
+    (any_places (together class) (λ j. together class (get_or cs j None)) (take e cs) None 0 (λ k i h s. ap (together class) (get_or-take e cs k None (omega arith) ∙ ap (λ (j : ℕ). get_or cs j None) (omega arith)))
+    ∙ ap (λ (n : ℕ). any (λ j. together class (get_or cs j None)) (counting 0 n)) long)
 
-module _ (cs : List (Option Class)) (e : ℕ) where
-  abbrev pub same_as : ℕ → Bool
-  same_as j = together (get_or cs e None) (get_or cs j None)
+-- the lowest number that passes
+numbers : (a n : ℕ) → range_with_len a n ≡ counting a n
+numbers a zero = refl
+numbers a (suc n) = ap (◌∷◌ a) (numbers (a + 1) n)
 
-  pub leads_not : (j : ℕ) → j < e → same_as j ≡ true → false ≡ leads cs e
-  leads_not j l h = sym (not_from_true _ (any_count_at same_as 0 e j (omega arith) (omega arith) h))
+first_is : (t : ℕ → Bool) (xs : List ℕ) → find t xs ≡ first_with t xs
+first_is t [] = refl
+first_is t (x ∷ xs) = ap (λ (o : Option ℕ). cond (t x) (Some x) o) (first_is t xs)
 
-  pub leads_so : (j : ℕ) → e ≤ j → NoneFrom same_as 0 j → true ≡ leads cs e
-  leads_so j l none =
-      sym (not_from_false _ (first_none same_as (counting 0 e) (none_found same_as 0 e (λ m p q. none m p (omega arith)))))
-
--- Captives
-
-pub nothing_reached : (cs : List (Option Class)) (o : Option ℕ) (d : ℕ) → o ≡ Some d → length cs ≤ d → None ≡ class_reached cs o
-nothing_reached cs o d e l = sym (ap (class_reached cs) e ∙ get_or_past cs d None l)
-
--- whether name i reaches a declaration of the captor's class is r
-module _ (cs : List (Option Class)) (reached : List (Option ℕ)) (captor i : ℕ) (found : Option Class) (r : Bool) (here : i < length reached) (is_found : found ≡ class_reached cs (get_or reached i None)) (is : r ≡ together (get_or cs captor None) found) where
-  captured_by : (s : Bool) → s ≡ together (get_or cs captor None) (get_or cs i None) → captured cs (classes_of cs reached) captor i ≡ (r && not s)
-  captured_by s e =
-      sym (ap₂ (λ (x y : Bool). x && not y) (is ∙ ap (together (get_or cs captor None)) (is_found ∙ sym (get_or-map (class_reached cs) reached i None None here))) e)
-
-  pub is_captive : (s : Bool) → s ≡ together (get_or cs captor None) (get_or cs i None) → r ≡ true → s ≡ false → captured cs (classes_of cs reached) captor i ≡ true
-  is_captive s e h n = captured_by s e ∙ and_from r (not s) h (not_from_false s n)
-
-  pub of_own_class : (s : Bool) → s ≡ together (get_or cs captor None) (get_or cs i None) → s ≡ true → captured cs (classes_of cs reached) captor i ≡ false
-  of_own_class s e h = captured_by s e ∙ and_right r (not s) (not_from_true s h)
-
-  pub reaches_another : r ≡ false → captured cs (classes_of cs reached) captor i ≡ false
-  reaches_another n = captured_by _ refl ∙ and_left r _ n
+pub lowest_found : (t : ℕ → Bool) (n : ℕ) (o : Option ℕ) → option_map (λ x. x) o ≡ find t (range_with_len 0 n) → o ≡ first_with t (counting 0 n)
+lowest_found t n o e = sym (option_map_id o) ∙ (e ∙ (first_is t (range_with_len 0 n) ∙ ap (first_with t) (numbers 0 n)))

@@ -1,7 +1,8 @@
 -- The first number of a count that passes a test.
-use Rattle.std.proofs.Common.{◌≡◌, ℕ, zero, suc, ◌+◌, ◌-◌, ◌<◌, ◌≤◌, Bool, true, false, Some, None, sym, refl, ap, ◌∙◌, subst, ⊎_elim, arith}
+use Rattle.std.proofs.Common.{◌≡◌, ℕ, zero, suc, ◌+◌, ◌-◌, ◌<◌, ◌≤◌, Bool, true, false, ◌||◌, List, [], ◌∷◌, length, get_or, Some, None, sym, refl, ap, ap₂, ◌∙◌, subst, ⊎_elim, arith}
+use Rattle.std.specs.List.{list_any}
 use Rattle.std.proofs.lemmas.Bool.{cases_eq, cond-true, cond-false}
-use Rattle.model.specs.Lists.{first_with, counting}
+use Rattle.model.specs.Lists.{any, first_with, counting}
 use Rattle.laws.proofs.Reaches.{Finding, finding, counting_at, length_counting}
 
 module _ (t : ℕ → Bool) where
@@ -52,3 +53,8 @@ module _ (t : ℕ → Bool) where
       let f = subst (Finding t (counting a n)) e (finding t (counting a n)) in
       let long = length_counting a n in
       ap t (sym (counting_at a n (m - a) (omega arith) ∙ omega arith)) ∙ f (m - a) (omega arith)
+
+-- what a list holds place by place, and the numbers of its places
+pub any_places : {A : Type 0} (t : A → Bool) (u : ℕ → Bool) (xs : List A) (d : A) (at : ℕ) → ((k i : ℕ) → k < length xs → i ≡ at + k → t (get_or xs k d) ≡ u i) → list_any t xs ≡ any u (counting at (length xs))
+any_places t u [] d at h = refl
+any_places t u (x ∷ xs) d at h = ap₂ (λ (a b : Bool). a || b) (h 0 at (omega arith) (omega arith)) (any_places t u xs d (at + 1) (λ k i l e. h (suc k) i (omega arith) (omega arith)))

@@ -1,4 +1,3 @@
-pub mod Shown
 pub mod Bits
 pub mod Firsts
 pub mod Rows

@@ -1,6 +1,6 @@
 -- A row with other nodes and its own origins, and one class of it respelled.
 use Rattle.std.proofs.Common.{◌≡◌, ℕ, zero, suc, ◌+◌, ◌<◌, ◌≤◌, Bool, true, false, cond, List, [], ◌∷◌, ◌++◌, length, get_or, take, drop, set, None, Option, sym, refl, ap, ◌∙◌, ap₂, append-nil, arith}
-use Rattle.std.proofs.lemmas.List.{get_or_at, set-get_or, take_all, drop_all, drop_more, length-take-le}
+use Rattle.std.proofs.lemmas.List.{get_or_at, take_all, drop_all, drop_more, length-take-le}
 use Rattle.std.proofs.lemmas.Bool.{cond-true, cond-false}
 use Rattle.model.specs.declared.nodes.Name.{Name}
 use Rattle.model.specs.declared.nodes.Node.{Node}
@@ -70,10 +70,9 @@ module _ (c : Option Class) (a : Name) (cs : List (Option Class)) (es : List Ent
     spelled_here s =
         step _ (ap (λ (e : Entry). renamed e a) not_yet ∙ sym (spelled_at c a cs es i long here ∙ cond-true (together c (get_or cs i None)) _ _ (sym is ∙ s)))
 
-    pub spelled_past : r ≡ false → SpelledFront (i + 1) so_far
+    pub spelled_past : r ≡ false → SpelledFront (i + 1) (set so_far i (entry_at so_far i))
     spelled_past s =
-        sym (set-get_or so_far i blank_entry)
-        ∙ step (entry_at so_far i) (not_yet ∙ sym (spelled_at c a cs es i long here ∙ cond-false (together c (get_or cs i None)) _ _ (sym is ∙ s)))
+        step (entry_at so_far i) (not_yet ∙ sym (spelled_at c a cs es i long here ∙ cond-false (together c (get_or cs i None)) _ _ (sym is ∙ s)))
 
   pub spelled_all : (i : ℕ) (so_far : List Entry) → length es ≤ i → SpelledFront i so_far → so_far ≡ spelled c a cs es
   spelled_all i so_far l front =

@@ -1,12 +1,14 @@
 -- Marks as bits of a row of words.
-use Rattle.std.proofs.Common.{◌≡◌, ℕ, ◌+◌, ◌-◌, ◌*◌, ◌/◌, ◌%◌, ◌^◌, ◌<◌, ◌≤◌, Bool, true, false, not, ◌||◌, eqb, List, length, get_or, set, replicate, Some, None, sym, refl, ap, ◌∙◌, subst, ⊎_elim, arith}
+use Rattle.std.proofs.Common.{◌≡◌, ℕ, ◌+◌, ◌-◌, ◌*◌, ◌/◌, ◌%◌, ◌^◌, ◌<◌, ◌≤◌, Bool, true, false, not, ◌||◌, eqb, List, length, get_or, set, Some, None, sym, refl, ap, ap₂, ◌∙◌, subst, ⊎_elim, w64, arith}
 use mathlib.Core.Bool.{or-false}
-use lib.Bits.{bit_or}
-use Rattle.std.proofs.lemmas.List.{get_or-replicate, get_or_past, length-replicate, get_or-set_same, get_or-set_other}
-use Rattle.std.proofs.lemmas.Bool.{cases_eq, cases_lt, eq-eqb, ne_eqb, eqb-true, eqb-false, cond-true, cond-false, not_from_true, not_from_false, or_cases, or_parts}
+use Rattle.std.specs.Int.RustNames.{bit_or}
+use Rattle.std.specs.Int.{from_bool, trailing_ones}
+use Rattle.std.proofs.lemmas.Nat.{or_lt}
+use Rattle.std.proofs.lemmas.List.{get_or-set_same, get_or-set_other}
+use Rattle.std.proofs.lemmas.Bool.{cases_eq, cases_lt, eq-eqb, ne_eqb, eqb-true, eqb-false, not_from_true, not_from_false, or_cases, or_parts}
 use Rattle.model.specs.MarkRow.{bit_at}
-use Rattle.repair.specs.Marks.{with_plain, lowest_free}
-use Rattle.repair.proofs.Bits.{bit, bit_or_lem, bit_of_zero, bit_of_pow, Lowest}
+use Rattle.repair.specs.Marks.{lowest_free}
+use Rattle.repair.proofs.Bits.{bit, bit_or_lem, bit_of_zero, bit_of_pow, Lowest, lowest}
 use Rattle.repair.proofs.Firsts.{first_found, none_found}
 
 in_word : (ws : List ℕ) (m : ℕ) → bit_at ws m ≡ bit (get_or ws (m / 64) 0) (m % 64)
@@ -19,14 +21,6 @@ placed ws i j l =
     let p : (i * 64 + j) / 64 ≡ i = omega arith in
     let q : (i * 64 + j) % 64 ≡ j = omega arith in
     in_word ws (i * 64 + j) ∙ (ap (λ (a : ℕ). bit (get_or ws a 0) ((i * 64 + j) % 64)) p ∙ ap (bit (get_or ws i 0)) q)
-
-zeros : (n i : ℕ) → get_or {A = ℕ} (replicate n 0) i 0 ≡ 0
-zeros n i = ⊎_elim (get_or-replicate n i 0 0) (λ (h : n ≤ i). get_or_past {X = ℕ} (replicate n 0) i 0 (omega (arith, length-replicate {A = ℕ} n 0))) (cases_lt i n)
-
--- no mark is noted in a row of zeros
-pub none_noted : (ws : List ℕ) (n : ℕ) → ws ≡ replicate n 0 → (m : ℕ) → bit_at ws m ≡ false
-none_noted ws n e m =
-    ap (λ l. bit_at l m) e ∙ (in_word (replicate n 0) m ∙ (ap (λ (w : ℕ). bit w (m % 64)) (zeros n (m / 64)) ∙ bit_of_zero (m % 64)))
 
 -- one mark more is noted, and no other
 abbrev pub Notes : List ℕ → ℕ → List ℕ → Type 0
@@ -63,27 +57,35 @@ noted ws vs m inside e k =
 abbrev pub taken : List ℕ → ℕ → Bool
 taken ws m = bit_at ws m || eqb 0 m
 
+-- a word of the row, read so
+abbrev pub with_plain : List ℕ → ℕ → ℕ
+with_plain ws i = bit_or (get_or ws i 0) (from_bool (eqb i 0))
+
+plain_bit : (i j : ℕ) → j < 64 → bit (from_bool (eqb i 0)) j ≡ eqb 0 (i * 64 + j)
+plain_bit i j l =
+    ⊎_elim
+    (λ (s : i ≡ 0). ap (λ (b : Bool). bit (from_bool b) j) (eq-eqb i 0 s) ∙ (bit_of_pow 0 j ∙ ap (eqb 0) (omega arith)))
+    (λ (s : i ≡ 0 → ⊥). ap (λ (b : Bool). bit (from_bool b) j) (ne_eqb i 0 s) ∙ (bit_of_zero j ∙ sym (ne_eqb 0 (i * 64 + j) (λ r. omega arith))))
+    (cases_eq i 0)
+
 with_plain_bit : (ws : List ℕ) (i j : ℕ) → j < 64 → bit (with_plain ws i) j ≡ taken ws (i * 64 + j)
 with_plain_bit ws i j l =
-    ⊎_elim
-    (λ (s : i ≡ 0).
-    ap (λ (w : ℕ). bit w j) (cond-true (eqb i 0) (bit_or (get_or ws i 0) 1) (get_or ws i 0) (eq-eqb i 0 s))
-    ∙ (bit_or_lem (get_or ws i 0) 1 j
-    ∙ (ap (λ (b : Bool). b || bit 1 j) (sym (placed ws i j l))
-    ∙ ap (λ (b : Bool). bit_at ws (i * 64 + j) || b) (bit_of_pow 0 j ∙ ap (eqb 0) (omega arith)))))
-    (λ (s : i ≡ 0 → ⊥).
-    ap (λ (w : ℕ). bit w j) (cond-false (eqb i 0) (bit_or (get_or ws i 0) 1) (get_or ws i 0) (ne_eqb i 0 s))
-    ∙ (sym (placed ws i j l)
-    ∙ (sym (or-false (bit_at ws (i * 64 + j)))
-    ∙ ap (λ (b : Bool). bit_at ws (i * 64 + j) || b) (sym (ne_eqb 0 (i * 64 + j) (λ r. omega arith))))))
-    (cases_eq i 0)
+    bit_or_lem (get_or ws i 0) (from_bool (eqb i 0)) j ∙ ap₂ (λ (a b : Bool). a || b) (sym (placed ws i j l)) (plain_bit i j l)
+
+-- the lowest clear bit of a word, read so
+pub lowest_plain : (ws : List ℕ) (i f t : ℕ) → get_or ws i 0 < 2 ^ 64 → f ≡ from_bool (eqb i 0) → t ≡ trailing_ones w64 (bit_or (get_or ws i 0) f) → Lowest (with_plain ws i) t
+lowest_plain ws i f t small is e = rw (e, is) (lowest (with_plain ws i) (or_lt 64 _ _ small (first_bit (eqb i 0))))
+  where
+    first_bit : (b : Bool) → from_bool b < 2 ^ 64
+    first_bit true = omega arith
+    first_bit false = omega arith
 
 -- A search through the words
 
 abbrev pub AllTaken : List ℕ → ℕ → Type 0
 AllTaken ws n = (m : ℕ) → m < n → taken ws m ≡ true
 
-pub taken_more : (ws : List ℕ) (i t : ℕ) → Lowest 64 (with_plain ws i) t → AllTaken ws (64 * i) → AllTaken ws (i * 64 + t)
+pub taken_more : (ws : List ℕ) (i t : ℕ) → Lowest (with_plain ws i) t → AllTaken ws (64 * i) → AllTaken ws (i * 64 + t)
 taken_more ws i t low all m l =
     let w = low.within in
     ⊎_elim (all m)
@@ -96,7 +98,7 @@ is_noted : (ws : List ℕ) (m : ℕ) → 1 ≤ m → taken ws m ≡ true → not
 is_noted ws m l h =
     ⊎_elim (not_from_true (bit_at ws m)) (λ z. let e = eqb-true 0 m z in absurd (omega arith)) (or_cases (bit_at ws m) (eqb 0 m) h)
 
-pub clear_found : (ws : List ℕ) (i t : ℕ) → i < 16 → t < 64 → Lowest 64 (with_plain ws i) t → AllTaken ws (64 * i) → Some (i * 64 + t) ≡ lowest_free ws
+pub clear_found : (ws : List ℕ) (i t : ℕ) → i < 16 → t < 64 → Lowest (with_plain ws i) t → AllTaken ws (64 * i) → Some (i * 64 + t) ≡ lowest_free ws
 unfolding lowest_free
 clear_found ws i t h l low all =
     let k = i * 64 + t in

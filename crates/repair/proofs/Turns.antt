@@ -19,6 +19,8 @@ use Rattle.promise.proofs.Lists.{any_below, get_or_places}
 use Rattle.promise.proofs.Reaches.{reaches_at}
 use Rattle.promise.proofs.Respelling.{Same, same_trans, same_length, respell_same, respelled_at, has_turn}
 use Rattle.scope.specs.Finding.{overlaid}
+use Rattle.repair.specs.declared.rounds.Draft.{Draft}
+use Rattle.repair.specs.Drafts.{SameRows}
 use Rattle.repair.specs.Rounds.{classes_of, captured}
 use Rattle.repair.proofs.Origins.{own_nodes, origins_again}
 
@@ -132,3 +134,12 @@ module _ (order : Order) (cs : List (Option Class)) (p : List Node) (row : List 
   turn_is e r h =
       let there = captured cs (classes_reached (order (shape p)) cs p) e in
       sym (h ∙ ap (λ (b : Bool). leads cs e && b) (any_below (captured cs (classes_of cs row) e) there (length cs) (same_captured e) ∙ sym (any_below there there (length cs) (λ i l. refl))))
+
+-- The rows stay
+
+pub rows_on : (a b c d : Draft) → SameRows a b → SameRows b c → d ≡ c → SameRows a d
+rows_on a b c d first next e = (
+  ap (λ (x : Draft). x.entries.ghost_name) e ∙ (next.0 ∙ first.0),
+  ap (λ (x : Draft). x.classes) e ∙ (next.1 ∙ first.1),
+  ap (λ (x : Draft). x.words.ghost_name) e ∙ (next.2 ∙ first.2),
+)

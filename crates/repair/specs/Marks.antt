@@ -1,5 +1,5 @@
 -- What is noted in a mark row, and how it is read.
-use Rattle.std.specs.Prelude.{ℕ, Bool, cond, ◌&&◌, List, Option, ◌==◌, bit_or, slice_index}
+use Rattle.std.specs.Prelude.{ℕ, Bool, ◌&&◌, List, Option}
 use Rattle.model.specs.declared.nodes.Name.{Name}
 use Rattle.model.specs.declared.nodes.Node.{Node}
 use Rattle.model.specs.Kinds.{has_name}
@@ -9,10 +9,6 @@ use Rattle.model.specs.MarkRow.{lowest_clear}
 -- a node that has a name, with the stem of another
 abbrev pub of_stem : Name → Node → Bool
 of_stem a n = has_name n.kind && same_stem a n.name
-
--- a word of the row, the bit of mark 0 regarded as set
-abbrev pub with_plain : List ℕ → ℕ → ℕ
-with_plain row i = cond (i == 0) (bit_or (slice_index row i) 1) (slice_index row i)
 
 -- the lowest clear bit above bit 0; shut, since it computes to a test of each of the 1,023 bits
 unfoldable pub lowest_free : List ℕ → Option ℕ

@@ -8,7 +8,7 @@ ghost use Rattle.model.specs.Classes.{together};
 ghost use Rattle.model.specs.Repair.{class_reached, leads as leads_class, captures, captors, fresh, respell as respelled_class, round as one_round, repair};
 ghost use Rattle.model.specs.Stages.{with_origins};
 ghost use Rattle.promise.specs.Rounds.{Classed};
-ghost use Rattle.repair.specs.Rounds.{classes_of, lowest_captive};
+ghost use Rattle.repair.specs.Rounds.{classes_of, captured, lowest_captive};
 
 use crate::marks::fresh_mark;
 use model::classes::Class;
@@ -22,120 +22,149 @@ const MOST_NODES: usize = 1024;
 fn are_together(a: Option<Class>, b: Option<Class>) -> bool
     ensures { result ≡ together a b }
 {
-    match (a, b) {
-        (Some(class), Some(other)) => class.is_same(&other),
-        _ => false,
-    }
-}
-
-// Whether no lower name is of its class.
-fn leads(classes: &[Option<Class>], at: usize) -> bool
-    requires { at < length classes.now }
-    ensures { result ≡ leads_class classes.now at }
-{
-    for lower in 0..at {
-        if are_together(classes[at], classes[lower]) {
-            return false;
-        }
-    }
-    true
+    a.is_some() && a == b
 }
 
 // The class of what a name reaches.
 fn class_reached(classes: &[Option<Class>], reached: Option<usize>) -> Option<Class>
     ensures { result ≡ class_reached classes.now reached }
 {
-    match reached {
-        Some(declaration) => {
-            if declaration < classes.len() {
-                classes[declaration]
-            } else {
-                None
+    *classes.get(reached?)?
+}
+
+// What the names of a draft belong to, and what they reach at the start of a round.
+#[derive(Drop)]
+struct Names<'a> {
+    classes: &'a [Option<Class>],
+    reached: &'a [Option<usize>],
+    ghost long: { length classes.now ≤ length reached.now },
+}
+
+impl Names<'_> {
+    // Whether no lower name is of its class.
+    fn leads(&self, at: usize) -> bool
+        requires { at < length self.now.classes.now }
+        ensures { result ≡ leads_class self.now.classes.now at }
+    {
+        let class = self.classes[at];
+        !self.classes[..at]
+            .iter()
+            .any(|lower| are_together(class, *lower))
+    }
+
+    // Whether a name is of another class than the captor, and reaches a declaration of the captor's.
+    fn is_caught(&self, at: usize, captor: usize) -> bool
+        requires within { at < length self.now.classes.now }
+        requires captor { captor < length self.now.classes.now }
+        ensures { result ≡ captured self.now.classes.now (classes_of self.now.classes.now self.now.reached.now) captor at }
+    {
+        let class = self.classes[captor];
+        let found = class_reached(self.classes, self.reached[at]);
+        are_together(class, found) && !are_together(class, self.classes[at])
+    }
+
+    // The lowest name that is caught.
+    fn captive(&self, captor: usize) -> Option<usize>
+        requires { captor < length self.now.classes.now }
+        ensures { result ≡ lowest_captive self.now.classes.now (classes_of self.now.classes.now self.now.reached.now) captor }
+    {
+        (0..self.classes.len()).find(|at| self.is_caught(*at, captor))
+    }
+
+    // Whether the name is the lowest of a class that captures another.
+    fn is_captor(&self, at: usize) -> bool
+        requires { at < length self.now.classes.now }
+        ensures { result ≡ (leads_class self.now.classes.now at && captures self.now.classes.now (classes_of self.now.classes.now self.now.reached.now) at) }
+    {
+        self.leads(at) && self.captive(at).is_some()
+    }
+}
+
+// A draft under repair: its entries, the class of each, and a lent row for marks, zero between two searches.
+#[derive(Drop)]
+struct Draft<'a> {
+    entries: &'a mut [Entry],
+    classes: &'a [Option<Class>],
+    words: &'a mut [u64],
+    ghost long: { length classes.now ≡ length entries.now },
+    ghost few: { length entries.now ≤ 1024 },
+    ghost wide: { 16 ≤ length words.now },
+    ghost clear: { words.now ≡ replicate (length words.now) 0 },
+}
+
+impl Draft<'_> {
+    ghost use Rattle.repair.specs.Drafts.{SameRows};
+
+    // Spells every name of the captor's class so.
+    fn respell(&mut self, captor: usize, name: Name)
+        requires { captor < length self.old.classes.now }
+        ensures after { self.new.entries.now ≡ with_origins self.old.entries.now (respelled_class (slice_index_or self.old.classes.now captor None) name self.old.classes.now (nodes self.old.entries.now)) }
+        ensures rows { SameRows self.old self.new }
+    {
+        let classes = self.classes;
+        let class = classes[captor];
+        // No `zip`: after an adapter of `iter_mut` nothing is known of what was written.
+        for (place, entry) in self.entries.iter_mut().enumerate() {
+            if are_together(class, classes[place]) {
+                entry.node.name = name;
             }
         }
-        None => None,
     }
-}
 
-// The lowest name of another class that reaches a declaration of the captor's.
-fn captive(classes: &[Option<Class>], reached: &[Option<usize>], captor: usize) -> Option<usize>
-    requires within { captor < length classes.now }
-    requires long { length classes.now ≤ length reached.now }
-    ensures { result ≡ lowest_captive classes.now (classes_of classes.now reached.now) captor }
-{
-    let class = classes[captor];
-    for at in 0..classes.len() {
-        let found = class_reached(classes, reached[at]);
-        if are_together(class, found) && !are_together(class, classes[at]) {
-            return Some(at);
+    // Gives the captor's class a fresh spelling: the stem of the captor, and a mark that no name has with it.
+    fn respell_freshly(&mut self, captor: usize)
+        requires { captor < length self.old.classes.now }
+        ensures after { self.new.entries.now ≡ with_origins self.old.entries.now (respelled_class (slice_index_or self.old.classes.now captor None) (fresh (name_at (nodes self.old.entries.now) captor) (nodes self.old.entries.now)) self.old.classes.now (nodes self.old.entries.now)) }
+        ensures rows { SameRows self.old self.new }
+    {
+        // Lent from a variable: of entries lent from the field only their number is known afterwards.
+        let entries = &mut *self.entries;
+        let name = entries[captor].node.name;
+        let mark = fresh_mark(entries, &name, self.words);
+        self.respell(captor, name.marked(mark));
+    }
+
+    // One round: all captors are judged by what the names reach at its start. Whether there was one.
+    fn round<T: Language>(&mut self) -> bool
+        ensures found { result ≡ not (empty (captors (T.Language.visible (shape (nodes self.old.entries.now))) self.old.classes.now (nodes self.old.entries.now))) }
+        ensures after { self.new.entries.now ≡ with_origins self.old.entries.now (one_round (T.Language.visible (shape (nodes self.old.entries.now))) self.old.classes.now (nodes self.old.entries.now)) }
+        ensures rows { SameRows self.old self.new }
+    {
+        let mut reached = [None; MOST_NODES];
+        // Lent from a variable, as above.
+        let entries = &mut *self.entries;
+        T::find_all(entries, &mut reached);
+        let names = Names {
+            classes: self.classes,
+            reached: &reached,
+        };
+        let mut found = false;
+        // A count, since no iterator may hold the entries while a class of them is respelled.
+        for at in 0..self.entries.len() {
+            if names.is_captor(at) {
+                self.respell_freshly(at);
+                found = true;
+            }
         }
+        found
     }
-    None
-}
 
-// Whether the name is the lowest of a class that captures another.
-fn is_captor(classes: &[Option<Class>], reached: &[Option<usize>], at: usize) -> bool
-    requires within { at < length classes.now }
-    requires long { length classes.now ≤ length reached.now }
-    ensures { result ≡ (leads_class classes.now at && captures classes.now (classes_of classes.now reached.now) at) }
-{
-    leads(classes, at) && captive(classes, reached, at).is_some()
-}
-
-// Spells every name of the captor's class so.
-fn respell(entries: &mut [Entry], classes: &[Option<Class>], captor: usize, name: Name)
-    requires within { captor < length classes.now }
-    requires long { length classes.now ≡ length entries.old }
-    ensures { entries.new ≡ with_origins entries.old (respelled_class (slice_index_or classes.now captor None) name classes.now (nodes entries.old)) }
-{
-    let class = classes[captor];
-    for place in 0..entries.len() {
-        if are_together(class, classes[place]) {
-            entries[place].node.name = name;
-        }
+    // Goes on in rounds until one finds no captor, and answers how many found one.
+    fn repair<T: Language>(&mut self) -> usize
+        requires { Classed self.old.classes.now (nodes self.old.entries.now) }
+        ensures rounds { result ≡ (repair (T.Language.visible (shape (nodes self.old.entries.now))) self.old.classes.now (nodes self.old.entries.now)).rounds }
+        ensures after { self.new.entries.now ≡ with_origins self.old.entries.now (repair (T.Language.visible (shape (nodes self.old.entries.now))) self.old.classes.now (nodes self.old.entries.now)).program }
+        ensures rows { SameRows self.old self.new }
+    {
+        let mut count: usize = 0;
+        let rounds = loop {
+            if !self.round::<T>() {
+                break count;
+            }
+            count += 1;
+        };
+        rounds
     }
-}
-
-// Gives the captor's class a fresh spelling: the stem of the captor, and a mark that no name has with it.
-fn respell_freshly(
-    entries: &mut [Entry],
-    classes: &[Option<Class>],
-    captor: usize,
-    words: &mut [u64],
-)
-    requires within { captor < length classes.now }
-    requires long { length classes.now ≡ length entries.old }
-    requires few { length entries.old ≤ 1024 }
-    requires wide { 16 ≤ length words.old }
-    requires clear { words.old ≡ replicate (length words.old) 0 }
-    ensures after { entries.new ≡ with_origins entries.old (respelled_class (slice_index_or classes.now captor None) (fresh (name_at (nodes entries.old) captor) (nodes entries.old)) classes.now (nodes entries.old)) }
-    ensures clear { words.new ≡ replicate (length words.old) 0 }
-{
-    let name = entries[captor].node.name;
-    let mark = fresh_mark(entries, &name, words);
-    respell(entries, classes, captor, name.marked(mark));
-}
-
-// One round: all captors are judged by what the names reach at its start. Whether there was one.
-fn round<T: Language>(entries: &mut [Entry], classes: &[Option<Class>], words: &mut [u64]) -> bool
-    requires long { length classes.now ≡ length entries.old }
-    requires few { length entries.old ≤ 1024 }
-    requires wide { 16 ≤ length words.old }
-    requires clear { words.old ≡ replicate (length words.old) 0 }
-    ensures found { result ≡ not (empty (captors (T.Language.visible (shape (nodes entries.old))) classes.now (nodes entries.old))) }
-    ensures after { entries.new ≡ with_origins entries.old (one_round (T.Language.visible (shape (nodes entries.old))) classes.now (nodes entries.old)) }
-    ensures clear { words.new ≡ replicate (length words.old) 0 }
-{
-    let mut reached = [None; MOST_NODES];
-    T::find_all(entries, &mut reached);
-    let mut found = false;
-    for at in 0..entries.len() {
-        if is_captor(classes, &reached, at) {
-            respell_freshly(entries, classes, at, words);
-            found = true;
-        }
-    }
-    found
 }
 
 // Goes on in rounds until one finds no captor, and answers how many found one.
@@ -153,12 +182,10 @@ pub fn repair_names<T: Language>(
     ensures after { entries.new ≡ with_origins entries.old (repair (T.Language.visible (shape (nodes entries.old))) classes.now (nodes entries.old)).program }
     ensures clear { words.new ≡ replicate (length words.old) 0 }
 {
-    let mut count: usize = 0;
-    let rounds = loop {
-        if !round::<T>(entries, classes, words) {
-            break count;
-        }
-        count += 1;
+    let mut draft = Draft {
+        entries,
+        classes,
+        words,
     };
-    rounds
+    draft.repair::<T>()
 }

@@ -9,7 +9,8 @@ use crate::pieces::Fields;
 use model::kinds::{Kind, Role};
 use model::nodes::{Entry, Name, Node, Origin};
 
-// Whether a text is a script, or a draft with the origins of its names.
+// Whether a text is a script, or a draft with the origins of its names. The definitions call them `plain` and
+// `draft`; one type for both would take the names of a role and of a draft's own type there.
 #[derive(Clone, Copy)]
 pub enum Form {
     Script,

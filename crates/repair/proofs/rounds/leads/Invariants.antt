@@ -1,7 +1,0 @@
-use Rattle.model.specs.CodeClasses.{shown_classes}
-use Rattle.repair.proofs.Firsts.{NoneFrom}
-use Rattle.repair.proofs.Captors.{same_as}
-use Rattle.repair.proofs.rounds.leads.Given as goal
-
-abbrev pub invariant-loop-lower : goal.invariant-loop-lower
-invariant-loop-lower l = NoneFrom (same_as (shown_classes l.classes) l.at) 0 l.lower
