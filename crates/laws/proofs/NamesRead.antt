@@ -13,9 +13,6 @@ use Rattle.model.specs.Fitting.{name_fits}
 use Rattle.laws.proofs.Pieces.{Over, Free, free_over, after_each, cut, pieces_joined, went}
 use Rattle.laws.proofs.Numbers.{number_written, number_read, over_decimal}
 
-same_bytes : (s : List ℕ) → bytes_eq s s ≡ true
-same_bytes s = (bytes_eq-Decides s s).1 refl
-
 pub alike_same : (a b : Name) → alike a b ≡ true → a ≡ b
 alike_same a b h =
     let p = and_parts (bytes_eq a.stem b.stem) (eqb a.mark b.mark) h in

@@ -1,3 +1,2 @@
 pub mod KindTables
 pub mod TableRows
-pub mod Searches

@@ -19,8 +19,8 @@ use Rattle.promise.proofs.Lists.{any_below, get_or_places}
 use Rattle.promise.proofs.Reaches.{reaches_at}
 use Rattle.promise.proofs.Respelling.{Same, same_trans, same_length, respell_same, respelled_at, has_turn}
 use Rattle.scope.specs.Finding.{overlaid}
-use Rattle.repair.specs.declared.rounds.Draft.{Draft}
-use Rattle.repair.specs.Drafts.{SameRows}
+use Rattle.repair.specs.declared.rounds.UnderRepair.{UnderRepair}
+use Rattle.repair.specs.Lent.{SameRows}
 use Rattle.repair.specs.Rounds.{classes_of, captured}
 use Rattle.repair.proofs.Origins.{own_nodes, origins_again}
 
@@ -137,9 +137,9 @@ module _ (order : Order) (cs : List (Option Class)) (p : List Node) (row : List 
 
 -- The rows stay
 
-pub rows_on : (a b c d : Draft) → SameRows a b → SameRows b c → d ≡ c → SameRows a d
+pub rows_on : (a b c d : UnderRepair) → SameRows a b → SameRows b c → d ≡ c → SameRows a d
 rows_on a b c d first next e = (
-  ap (λ (x : Draft). x.entries.ghost_name) e ∙ (next.0 ∙ first.0),
-  ap (λ (x : Draft). x.classes) e ∙ (next.1 ∙ first.1),
-  ap (λ (x : Draft). x.words.ghost_name) e ∙ (next.2 ∙ first.2),
+  ap (λ (x : UnderRepair). x.entries.ghost_name) e ∙ (next.0 ∙ first.0),
+  ap (λ (x : UnderRepair). x.classes) e ∙ (next.1 ∙ first.1),
+  ap (λ (x : UnderRepair). x.words.ghost_name) e ∙ (next.2 ∙ first.2),
 )

@@ -64,7 +64,7 @@ fn lowest_clear(words: &[u64; WORDS]) -> Option<u16>
     ensures { result ≡ lowest_free words.now }
 {
     for (at, word) in words.iter().enumerate() {
-        let low = (*word | u64::from(at == 0)).trailing_ones();
+        let low = (!(*word | u64::from(at == 0))).trailing_zeros();
         if low < 64 {
             // `as` is proved to lose nothing here; `try_from` would have an error to take care of.
             return Some(at as u16 * 64 + low as u16);

@@ -82,7 +82,7 @@ impl Names<'_> {
 
 // A draft under repair: its entries, the class of each, and a lent row for marks, zero between two searches.
 #[derive(Drop)]
-struct Draft<'a> {
+struct UnderRepair<'a> {
     entries: &'a mut [Entry],
     classes: &'a [Option<Class>],
     words: &'a mut [u64],
@@ -92,8 +92,8 @@ struct Draft<'a> {
     ghost clear: { words.now ≡ replicate (length words.now) 0 },
 }
 
-impl Draft<'_> {
-    ghost use Rattle.repair.specs.Drafts.{SameRows};
+impl UnderRepair<'_> {
+    ghost use Rattle.repair.specs.Lent.{SameRows};
 
     // Spells every name of the captor's class so.
     fn respell(&mut self, captor: usize, name: Name)
@@ -182,7 +182,7 @@ pub fn repair_names<T: Language>(
     ensures after { entries.new ≡ with_origins entries.old (repair (T.Language.visible (shape (nodes entries.old))) classes.now (nodes entries.old)).program }
     ensures clear { words.new ≡ replicate (length words.old) 0 }
 {
-    let mut draft = Draft {
+    let mut draft = UnderRepair {
         entries,
         classes,
         words,

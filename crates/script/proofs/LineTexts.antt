@@ -1,6 +1,6 @@
 -- The text of a line by the code's row of its kind, and lines one after another.
 use Rattle.std.proofs.Common.{◌≡◌, ℕ, ◌+◌, ◌<◌, ◌≤◌, true, eqb, List, [], ◌∷◌, ◌++◌, length, get_or, take, drop, Some, None, decimal, Option, sym, refl, ap, ◌∙◌, append_assoc, append-nil, arith, length-append, take-append-drop}
-use Rattle.std.proofs.lemmas.List.{drop_more, take_more}
+use Rattle.std.proofs.lemmas.List.{take_more}
 use Rattle.std.proofs.lemmas.Bool.{cond-true, cond-false, ne_eqb}
 use Rattle.model.specs.declared.kinds.Role.{Role}
 use Rattle.model.specs.declared.kinds.Role.TheVariants.{Plain, Declares, Refers}
@@ -49,10 +49,6 @@ pub write_append : (p q : List Entry) → write_lines plain (p ++ q) ≡ write_l
 write_append [] q = refl
 write_append (n ∷ p) q =
     ap (λ (l : List ℕ). write_line plain n ++ l) (write_append p q) ∙ sym (append_assoc (write_line plain n) (write_lines plain p) (write_lines plain q))
-
-pub text_more : (p : List Entry) (i : ℕ) (d : Entry) (k : ℕ) → i < length p → k ≡ length (write_line plain (get_or p i d)) → k + length (write_lines plain (drop (i + 1) p)) ≡ length (write_lines plain (drop i p))
-text_more p i d k h e =
-    omega (arith, ap (λ (l : List Entry). length (write_lines plain l)) (drop_more p i d h), length-append (write_line plain (get_or p i d)) (write_lines plain (drop (i + 1) p)))
 
 pub front_more : (p : List Entry) (i : ℕ) (d : Entry) → i < length p → write_lines plain (take (i + 1) p) ≡ write_lines plain (take i p) ++ write_line plain (get_or p i d)
 front_more p i d h =

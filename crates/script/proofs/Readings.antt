@@ -1,7 +1,7 @@
 -- Whole texts into a row, and what a read text says.
-use Rattle.std.proofs.Common.{◌≡◌, ℕ, ◌<◌, ◌≤◌, Bool, true, false, leb, List, [], ◌∷◌, ◌++◌, length, take, drop, replicate, IfOk, None, Ok, Err, Result, sym, refl, ap, ◌∙◌, subst, arith, length-append}
+use Rattle.std.proofs.Common.{◌≡◌, ℕ, ◌≤◌, Bool, true, false, leb, List, [], ◌∷◌, ◌++◌, length, take, drop, IfOk, None, Ok, Err, Result, sym, refl, ap, ◌∙◌, subst, arith, length-append}
 use Rattle.std.proofs.lemmas.List.{take_at}
-use Rattle.std.proofs.lemmas.Bool.{le-leb, lt-leb}
+use Rattle.std.proofs.lemmas.Bool.{le-leb}
 use Rattle.model.specs.declared.kinds.Sort.TheVariants.{Root}
 use Rattle.model.specs.declared.nodes.Entry.{Entry}
 use Rattle.model.specs.declared.faults.ReadFault.{ReadFault}
@@ -10,13 +10,13 @@ use Rattle.model.specs.declared.faults.TextFault.{TextFault}
 use Rattle.model.specs.declared.faults.TextFault.TheVariants.{TooShort, Read}
 use Rattle.model.specs.Lists.{and_then, raised}
 use Rattle.model.specs.Kinds.{Grammar}
-use Rattle.model.specs.Names.{nodes, unused_entry}
+use Rattle.model.specs.Names.{nodes}
 use Rattle.model.specs.Fields.{Form, plain, draft}
 use Rattle.model.specs.Reading.{ReadOut, lines, read_lines, read, read_into, counted, row_after}
 use Rattle.model.specs.Writing.{write, write_draft}
 use Rattle.model.specs.Fitting.{Program, DraftProgram}
 use Rattle.laws.proofs.RoundTrips.{round_trips_lem, draft_round_trips_lem, length_nodes}
-use Rattle.script.specs.Reads.{rest_read, InRow, Returned, Filled}
+use Rattle.script.specs.Reads.{rest_read, Returned, Filled}
 
 abbrev Into : Type 0
 Into = Result (List Entry) TextFault
@@ -26,29 +26,12 @@ Into = Result (List Entry) TextFault
 wide_at : (r : ReadOut) (b : Bool) → b ≡ true → ◌≡◌ {A = Into} (elim b [ true ↦ raised Read r | false ↦ Err (TooShort 0) ]) (raised Read r)
 wide_at r b e = rw e
 
-narrow_at : (r : ReadOut) (b : Bool) → b ≡ false → ◌≡◌ {A = Into} (elim b [ true ↦ raised Read r | false ↦ Err (TooShort 0) ]) (Err (TooShort 0))
-narrow_at r b e = rw e
-
 short_at : (r : ReadOut) (b : Bool) → b ≡ true → ◌≡◌ {A = ReadOut} (elim b [ true ↦ r | false ↦ Err TooLong ]) r
 short_at r b e = rw e
-
-long_at : (r : ReadOut) (b : Bool) → b ≡ false → ◌≡◌ {A = ReadOut} (elim b [ true ↦ r | false ↦ Err TooLong ]) (Err TooLong)
-long_at r b e = rw e
-
-filled_err : (w : Into) (f : TextFault) (old row : List Entry) → w ≡ Err f → Filled w (Err f) old row
-filled_err w f old row e = record { value = sym (ap counted e); entries = subst (λ (x : Into). InRow x old row) (sym e) tt }
 
 module _ (g : Grammar) (form : Form) (text : List ℕ) (old row : List Entry) where
   wide : 1024 ≤ length old → read_into g form text (length old) ≡ raised Read (read g form text)
   wide h = wide_at (read g form text) (leb 1024 (length old)) (le-leb 1024 (length old) h)
-
-  pub row_short : length old < 1024 → Filled (read_into g form text (length old)) (Err (TooShort 0)) old row
-  row_short h = filled_err _ (TooShort 0) old row (narrow_at (read g form text) (leb 1024 (length old)) (lt-leb 1024 (length old) h))
-
-  pub text_long : 1024 ≤ length old → 32768 < length text → Filled (read_into g form text (length old)) (Err (Read TooLong)) old row
-  text_long h l =
-      filled_err _ (Read TooLong) old row
-      (wide h ∙ ap (raised Read) (long_at (read_lines g form None (Root ∷ []) 0 (lines text)) (leb (length text) 32768) (lt-leb (length text) 32768 l)))
 
   lines_into : 1024 ≤ length old → length text ≤ 32768 → read_into g form text (length old) ≡ raised Read (rest_read g form None (Root ∷ []) 0 (lines text))
   unfolding rest_read
@@ -69,14 +52,6 @@ module _ (g : Grammar) (form : Form) (text : List ℕ) (old row : List Entry) wh
   lines_refused f h l r = subst (λ (w : Into). Filled w (Err (Read f)) old row) (sym (lines_into h l)) (raised_err _ f r)
 
 -- The row then
-
-pub row_filled : (w : Into) (n : ℕ) (old row : List Entry) → Filled w (Ok n) old row → row ≡ row_after w old
-row_filled (Ok es) n old row f = f.entries
-row_filled (Err e) n old row f = let v = f.value in let z : ◌≡◌ {A = ℕ} 0 1 = cc in absurd (omega arith)
-
-pub row_unused : (w : Into) (e : TextFault) (old row : List Entry) → Filled w (Err e) old row → replicate (length old) unused_entry ≡ row_after w old
-row_unused (Ok es) e old row f = let v = f.value in let z : ◌≡◌ {A = ℕ} 0 1 = cc in absurd (omega arith)
-row_unused (Err d) e old row f = refl
 
 -- What the entries say
 

@@ -1,8 +1,6 @@
-use Rattle.std.proofs.Common.{◌≡◌, ◌+◌, ◌-◌, ◌*◌, ◌<◌, get_or, drop, sym, ap, ◌∙◌, arith}
-use Rattle.std.proofs.lemmas.List.{drop_all}
-use Rattle.std.proofs.lemmas.Bool.{cond-true, cond-false, le-leb, lt-leb}
+use Rattle.std.proofs.Common.{◌+◌, ◌-◌, ◌*◌, ◌<◌, get_or, drop, sym, arith}
+use Rattle.std.proofs.lemmas.Bool.{cond-false, lt-leb}
 use Rattle.model.specs.Fields.{value_from}
-use Rattle.script.specs.Cuts.{at_most}
 use Rattle.script.proofs.FieldParts.{a_digit, value_ge, value_more}
 use Rattle.script.proofs.fields.value_of.Goals as goal
 
@@ -15,14 +13,3 @@ returns-then-n-most c =
     let ge = value_ge (c.loop-b.n * 10 + (get_or c.args.digits.now c.loop-b.b-index 0 - 48)) (drop (c.loop-b.b-index + 1) c.args.digits.now) in
     let past : c.args.most < value_from 0 c.args.digits.now = omega (arith, step, c.loop-b.invariant.1, c.if-n-most.true) in
     sym (cond-false _ _ _ (lt-leb _ _ past))
-
-pub loop-b-preserved : goal.loop-b-preserved
-loop-b-preserved c =
-    let step = value_more c.loop-b.n c.loop-b.b-index c.args.digits.now c.loop-b-test.true in
-    (c.if-n-most.false, sym step ∙ c.loop-b.invariant.1)
-
-pub returns : goal.returns
-returns c =
-    let n = c.loop-b.n in
-    let all : value_from 0 c.args.digits.now ≡ n = sym c.loop-b.invariant.1 ∙ ap (value_from n) (drop_all c.loop-b.b-index c.args.digits.now c.loop-b-test.false) in
-    sym (ap (at_most c.args.most) all ∙ cond-true _ _ _ (le-leb n c.args.most c.loop-b.invariant.0))

@@ -1,14 +1,7 @@
 use Rattle.std.proofs.lemmas.Result.{err_from_is_err_and}
 use Rattle.script.specs.Forms.{form_of}
-use Rattle.script.proofs.Readings.{row_short, text_long, lines_read, lines_refused}
+use Rattle.script.proofs.Readings.{lines_read, lines_refused}
 use Rattle.script.proofs.reader.fill_row.Goals as goal
-
-pub returns-then-row-lt-MOST_NODES : goal.returns-then-row-lt-MOST_NODES
-returns-then-row-lt-MOST_NODES g c = row_short g.G.Grammar.grammar (form_of c.args.form) c.args.text.now c.args.row.now _ c.if-row-lt-MOST_NODES.true
-
-pub returns-then-text-gt-LONGEST_TEXT : goal.returns-then-text-gt-LONGEST_TEXT
-returns-then-text-gt-LONGEST_TEXT g c =
-    text_long g.G.Grammar.grammar (form_of c.args.form) c.args.text.now c.args.row.now _ c.if-row-lt-MOST_NODES.false c.if-text-gt-LONGEST_TEXT.true
 
 pub returns-in_err-count : goal.returns-in_err-count
 returns-in_err-count g c =

@@ -1,7 +1,7 @@
 use Rattle.std.proofs.Common.{get_or, None, ◌∙◌}
 use Rattle.repair.proofs.Origins.{spelled_here, spelled_past, spelled_all}
-use Rattle.repair.proofs.rounds.Draft.respell.Goals as goal
-use Rattle.repair.proofs.rounds.Draft.respell.Goals.{then-are_together, else-are_together}
+use Rattle.repair.proofs.rounds.UnderRepair.respell.Goals as goal
+use Rattle.repair.proofs.rounds.UnderRepair.respell.Goals.{then-are_together, else-are_together}
 
 pub loop-place-preserved : goal.loop-place-preserved
 loop-place-preserved c =

@@ -1,7 +1,7 @@
 use Rattle.std.proofs.Common.{◌-◌}
-use Rattle.repair.specs.Drafts.{SameRows}
+use Rattle.repair.specs.Lent.{SameRows}
 use Rattle.repair.proofs.Mends.{Mending, all_rounds}
-use Rattle.repair.proofs.rounds.Draft.repair.Given as goal
+use Rattle.repair.proofs.rounds.UnderRepair.repair.Given as goal
 
 abbrev pub invariant-loop-count : goal.invariant-loop-count
 invariant-loop-count g l =

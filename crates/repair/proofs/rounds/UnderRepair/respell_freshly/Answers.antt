@@ -1,5 +1,5 @@
 use Rattle.repair.proofs.Origins.{freshly_spelled}
-use Rattle.repair.proofs.rounds.Draft.respell_freshly.Goals as goal
+use Rattle.repair.proofs.rounds.UnderRepair.respell_freshly.Goals as goal
 
 pub returns-clause-after : goal.returns-clause-after
 returns-clause-after c =

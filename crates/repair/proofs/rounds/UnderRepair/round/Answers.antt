@@ -4,10 +4,10 @@ use Rattle.model.specs.Forest.{shape}
 use Rattle.model.specs.Stages.{with_origins}
 use Rattle.laws.proofs.RoundTrips.{length_nodes}
 use Rattle.promise.proofs.Respelling.{respelled_at, has_turn}
-use Rattle.repair.specs.declared.rounds.Draft.{Draft}
+use Rattle.repair.specs.declared.rounds.UnderRepair.{UnderRepair}
 use Rattle.repair.proofs.Turns.{Turned, no_turn_yet, turn_is, turn_taken, turn_passed, rows_on}
-use Rattle.repair.proofs.rounds.Draft.round.Goals as goal
-use Rattle.repair.proofs.rounds.Draft.round.Goals.{then-is_captor, else-is_captor}
+use Rattle.repair.proofs.rounds.UnderRepair.round.Goals as goal
+use Rattle.repair.proofs.rounds.UnderRepair.round.Goals.{then-is_captor, else-is_captor}
 
 pub loop-at-init : goal.loop-at-init
 loop-at-init g c = (no_turn_yet c.args.self.now.classes.now c.args.self.now.entries.now _, (refl, refl, refl))
@@ -23,11 +23,11 @@ loop-at-preserved g c =
     elim c.if-is_captor.branch [
       | then-is_captor w ↦
           let spelled : w.respell_freshly.new.self.entries.now ≡ with_origins so_far.entries.now (respelled_at cs c.loop-at.at (nodes so_far.entries.now)) = rw c.loop-at.invariant.1.1 at w.respell_freshly.ensures.after in (
-            turn_taken cs es _ c.loop-at.at so_far.entries.now c.loop-at.found c.loop-at.invariant.0 _ _ _ (turn ∙ w.if-is_captor.true) spelled (ap (λ (d : Draft). d.entries.now) w.self-is) w.found-is,
+            turn_taken cs es _ c.loop-at.at so_far.entries.now c.loop-at.found c.loop-at.invariant.0 _ _ _ (turn ∙ w.if-is_captor.true) spelled (ap (λ (d : UnderRepair). d.entries.now) w.self-is) w.found-is,
             rows_on draft so_far _ _ c.loop-at.invariant.1 w.respell_freshly.ensures.rows w.self-is,
           )
       | else-is_captor w ↦ (
-        turn_passed cs es _ c.loop-at.at so_far.entries.now c.loop-at.found c.loop-at.invariant.0 _ _ (turn ∙ w.if-is_captor.false) (ap (λ (d : Draft). d.entries.now) w.self-is) w.found-is,
+        turn_passed cs es _ c.loop-at.at so_far.entries.now c.loop-at.found c.loop-at.invariant.0 _ _ (turn ∙ w.if-is_captor.false) (ap (λ (d : UnderRepair). d.entries.now) w.self-is) w.found-is,
         rows_on draft draft so_far _ (refl, refl, refl) c.loop-at.invariant.1 w.self-is,
       )
     ]

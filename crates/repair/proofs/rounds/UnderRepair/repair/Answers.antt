@@ -1,7 +1,7 @@
 use Rattle.std.proofs.Common.{refl, arith}
 use Rattle.repair.proofs.Mends.{not_begun, few_rounds, no_captor_left, one_more_round, rounds_left}
 use Rattle.repair.proofs.Turns.{rows_on}
-use Rattle.repair.proofs.rounds.Draft.repair.Goals as goal
+use Rattle.repair.proofs.rounds.UnderRepair.repair.Goals as goal
 
 pub loop-count-init : goal.loop-count-init
 loop-count-init g c = (not_begun g.T.Language.visible c.args.self.now.classes.now c.args.self.now.entries.now, (refl, refl, refl))

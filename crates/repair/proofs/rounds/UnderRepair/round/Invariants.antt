@@ -1,9 +1,9 @@
 use Rattle.model.specs.Names.{nodes}
 use Rattle.model.specs.Forest.{shape}
 use Rattle.promise.proofs.Respelling.{has_turn}
-use Rattle.repair.specs.Drafts.{SameRows}
+use Rattle.repair.specs.Lent.{SameRows}
 use Rattle.repair.proofs.Turns.{Turned}
-use Rattle.repair.proofs.rounds.Draft.round.Given as goal
+use Rattle.repair.proofs.rounds.UnderRepair.round.Given as goal
 
 abbrev pub invariant-loop-at : goal.invariant-loop-at
 invariant-loop-at g l =
