@@ -1,5 +1,5 @@
 -- The sorts still to come, as a stack of runs: its last run comes first.
-use Rattle.std.specs.Prelude.{◌≡◌, ℕ, List, [], ◌∷◌, ◌++◌, take, replicate, Some, None, Option}
+use Rattle.std.specs.Prelude.{◌≡◌, ℕ, ◌+◌, ◌<◌, ◌≤◌, List, length, slice_index_or, [], ◌∷◌, ◌++◌, take, replicate, Some, None, Option}
 use Rattle.model.specs.declared.kinds.Sort.{Sort}
 use Rattle.script.specs.declared.pending.Run.{Run}
 
@@ -23,3 +23,11 @@ pub record Coming : Type 0 where
 abbrev pub Taken : {A : Type 0} → List A → Option A → List A → Type 0
 Taken xs None ys = (xs ≡ []) × (ys ≡ [])
 Taken xs (Some x) ys = xs ≡ x ∷ ys
+
+-- a place after which all runs are used up, or none that is not
+abbrev pub AllUsed : List Run → ℕ → Type 0
+AllUsed runs i = (k : ℕ) (d : Run) → i ≤ k → k < length runs → (slice_index_or runs k d).left ≡ 0
+
+abbrev pub IsLastLeft : List Run → Option ℕ → Type 0
+IsLastLeft runs None = AllUsed runs 0
+IsLastLeft runs (Some i) = (i < length runs) × ((d : Run) → 0 < (slice_index_or runs i d).left) × AllUsed runs (i + 1)

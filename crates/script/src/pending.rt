@@ -2,7 +2,7 @@
 ghost use Rattle.std.specs.Prelude.{◌≡◌, ◌+◌, ◌<◌, ◌≤◌, [], ◌∷◌, ◌++◌, length, replicate};
 ghost use Rattle.model.specs.declared.kinds.Sort.TheVariants.{Root};
 ghost use Rattle.model.specs.Kinds.{child_sorts};
-ghost use Rattle.script.specs.Runs.{Taken};
+ghost use Rattle.script.specs.Runs.{Taken, IsLastLeft};
 
 use model::kinds::{Children, Kind, Sort};
 use std::marker::Model;
@@ -12,6 +12,13 @@ use std::marker::Model;
 pub struct Run {
     pub sort: Sort,
     pub left: u32,
+}
+
+// The last run that is not used up.
+fn last_left(runs: &[Run]) -> Option<usize>
+    ensures { IsLastLeft runs.now result }
+{
+    runs.iter().rposition(|run| run.left > 0)
 }
 
 // Room for three runs of each node of a program, with some to spare.
@@ -25,6 +32,7 @@ pub const EMPTY: Room = [Run {
     left: 0,
 }; MOST_RUNS];
 
+// A stack with its height, as there is no heap for a `Vec`; clauses see the sorts that it says, and the height.
 #[derive(Drop)]
 pub struct Pending<'a> {
     runs: &'a mut Room,
@@ -60,15 +68,11 @@ impl<'a> Pending<'a> {
         ensures sorts { Taken self.old.sorts result self.new.sorts }
         ensures height { self.new.height ≤ self.old.height }
     {
-        while let Some(last) = self.height.checked_sub(1) {
-            let run = self.runs[last];
-            if run.left > 0 {
-                self.runs[last].left = run.left - 1;
-                return Some(run.sort);
-            }
-            self.height = last;
-        }
-        None
+        let top = last_left(&self.runs[..self.height])?;
+        let run = self.runs[top];
+        self.runs[top].left = run.left - 1;
+        self.height = top + 1;
+        Some(run.sort)
     }
 
     fn push(&mut self, run: Run)
