@@ -148,16 +148,18 @@ fn flats(rt: HostRuntime) {
 
 // All reaches at once: as far as there is room, and no further.
 #[test]
-fn all_at_once(rt: HostRuntime) {
-    let mut row = [Entry::UNUSED; 1024];
-    let text = b"card\t2\ndef\ta\nnum\t1\nout\nref\ta\n";
-    assert_eq!(rt; read::<ByRoot>(text, &mut row), Ok(5));
+fn all_at_once(rt: HostRuntime) -> Result<(), Fail> {
+    let mut row = vec![in rt.alloc(); Entry::UNUSED; 1024]?;
+    let count = read::<ByRoot>(b"card\t2\ndef\ta\nnum\t1\nout\nref\ta\n", &mut row)?;
+    assert_eq!(rt; count, 5);
+    let program = &row[..count];
     let mut reached = [Some(7); 6];
-    ByRoot::find_all(&row[..5], &mut reached);
+    ByRoot::find_all(program, &mut reached);
     assert_eq!(rt; reached, [None, Some(1), None, None, Some(1), Some(7)]);
     let mut few = [Some(7); 2];
-    ByRoot::find_all(&row[..5], &mut few);
+    ByRoot::find_all(program, &mut few);
     assert_eq!(rt; few, [None, Some(1)]);
+    Ok(())
 }
 
 // Random lists of nodes, most of them no programs, in each language and by the root.
