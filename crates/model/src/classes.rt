@@ -14,7 +14,7 @@ pub enum Class {
 }
 
 impl Class {
-    // Whether two classes are the same.
+    // Whether two classes are the same: `==`, under the name that the rules have for it.
     pub fn is_same(&self, other: &Class) -> bool
         ensures { result ≡ same_class self.now other.now }
     {

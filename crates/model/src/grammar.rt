@@ -91,6 +91,7 @@ impl<R: OneRoot> Grammar for R {
     }
 }
 
+// Below a root all four have the table's kinds; a body in the trait would bind every grammar to them.
 impl Grammar for ByRoot {
     ghost grammar = { root_grammar };
 

@@ -51,6 +51,7 @@ pub enum Sort {
     Expression,
 }
 
+// The definitions have a type of their own, of lists: a row of the table refers to lists that never move.
 #[derive(Clone, Copy, PartialEq, Eq, Debug)]
 pub enum Children {
     Exactly(&'static [Sort]),
@@ -71,6 +72,7 @@ pub struct KindRow {
     pub under: &'static [Kind],
 }
 
+// A constant table, by the rules.
 pub static KINDS: [KindRow; 25] = [
     KindRow {
         kind: Kind::Card,
@@ -311,6 +313,7 @@ impl Kind {
     fn place(self) -> usize
         ensures { result + 1 ≡ kind_number self }
     {
+        // a kind has no `From` for its number
         self as usize
     }
 

@@ -5,7 +5,7 @@ ghost use Rattle.model.specs.Forest.{arity as children_wanted};
 
 use crate::kinds::{Children, Kind};
 
-// A stem has 1 to 8 characters, with zeros after them; mark 0 is the plain spelling.
+// A stem has 1 to 8 characters, with zeros after them, in eight bytes by the rules; mark 0 is the plain spelling.
 #[derive(Clone, Copy, PartialEq, Eq, Debug)]
 pub struct Name {
     pub stem: [u8; 8],
@@ -26,7 +26,7 @@ impl Name {
         self.stem == other.stem
     }
 
-    // Whether two names are spelled alike.
+    // Whether two names are spelled alike: `==`, under the name that the rules have for it.
     pub fn is_like(&self, other: &Name) -> bool
         ensures { result ≡ alike self.now other.now }
     {
@@ -56,6 +56,7 @@ impl Node {
     {
         match self.kind.row().children {
             Children::Exactly(sorts) => sorts.len(),
+            // there is no `From` for it, as a `usize` may have 16 bits in Rust
             Children::AsMany(_) => self.number as usize,
         }
     }

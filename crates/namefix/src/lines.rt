@@ -1,12 +1,13 @@
 // Files read, and texts as they can be shown.
 use anyhow::anyhow;
 use model::nodes::Name;
+use script::reader::LONGEST_TEXT;
 use std::fs::File;
 use std::io::Read;
 use std::{fmt, io};
 
 // One byte more than a text may have tells that a file is too long.
-const ENOUGH: u64 = 32769;
+const ENOUGH: u64 = LONGEST_TEXT as u64 + 1;
 
 fn first_bytes(rt: &HostRuntime, file: &str) -> io::Result<Vec<u8>> {
     let mut text = Vec::new(rt.alloc());
@@ -36,8 +37,8 @@ impl fmt::Display for Shown<'_> {
     fn fmt<W: fmt::Write>(&self, f: &mut fmt::Formatter<W>) -> fmt::Result {
         for b in self.bytes {
             match *b {
-                b'\t' => write!(f, "{}", self.tab)?,
-                32..=126 => write!(f, "{}", *b as char)?,
+                b'\t' => f.write_char(self.tab)?,
+                32..=126 => f.write_char(char::from(*b))?,
                 other => write!(f, "\\x{other:02x}")?,
             }
         }
@@ -45,7 +46,7 @@ impl fmt::Display for Shown<'_> {
     }
 }
 
-// A name as a text has it.
+// A name as a text has it, for a formatter; what the writer puts into a buffer is bytes.
 #[derive(Clone, Copy)]
 pub struct Spelling<'a>(pub &'a Name);
 
@@ -53,7 +54,7 @@ impl fmt::Display for Spelling<'_> {
     fn fmt<W: fmt::Write>(&self, f: &mut fmt::Formatter<W>) -> fmt::Result {
         let Name { stem, mark } = self.0;
         for b in stem.iter().filter(|b| **b != 0) {
-            write!(f, "{}", *b as char)?;
+            f.write_char(char::from(*b))?;
         }
         if *mark > 0 {
             write!(f, "'{mark}")?;

@@ -18,7 +18,7 @@ const USAGE: &str = "usage:
   namefix names FILE             which declaration each name of a script reaches
   namefix benchload FILE COUNT   time COUNT readings and writings of a script, in memory";
 
-// What the arguments ask for.
+// What the arguments ask for: matched once, and never compared or printed.
 #[derive(Drop)]
 enum Command {
     Swell,

@@ -1,6 +1,7 @@
 // Refusals in words.
 use crate::lines::Shown;
 use model::faults::{Layer, MendFault, ReadFault, RepairFault, TextFault};
+use script::reader::MOST_NODES;
 use script::summary::line;
 use std::fmt;
 
@@ -46,12 +47,14 @@ impl From<ReadFault> for Words {
             }
             ReadFault::AfterEnd(line) => Words::of_line(line, "the tree is full before this line"),
             ReadFault::EndsEarly(_) => Words::of_text("the text ends before the tree is full"),
-            ReadFault::TooManyNodes => { Words::of_line(1024, "a program has at most 1,024 nodes") }
+            ReadFault::TooManyNodes => {
+                Words::of_line(MOST_NODES, "a program has at most 1,024 nodes")
+            }
         }
     }
 }
 
-// A draft's node is its line.
+// A draft's node is its line. No command mends a draft yet.
 impl From<RepairFault> for Words {
     fn from(fault: RepairFault) -> Words {
         match fault {
@@ -76,6 +79,7 @@ impl From<RepairFault> for Words {
 
 const TOO_SHORT: &str = "there is too little room";
 
+// Two short conversions: a trait of both faults would be longer.
 impl From<TextFault> for Refusal {
     fn from(fault: TextFault) -> Refusal {
         Refusal {

@@ -108,8 +108,8 @@ pub fn fresh_mark(program: &[Entry], name: &Name, words: &mut [u64]) -> u16
     ensures value { result ≡ unused (marks name.now (nodes program.now)) }
     ensures clear { words.new ≡ replicate (length words.old) 0 }
 {
-    match words.first_chunk_mut() {
-        Some(front) => seek_mark(program, name, front),
-        None => unreachable!(),
-    }
+    let Some(front) = words.first_chunk_mut() else {
+        unreachable!()
+    };
+    seek_mark(program, name, front)
 }

@@ -81,6 +81,7 @@ impl Names<'_> {
 }
 
 // A draft under repair: its entries, the class of each, and a lent row for marks, zero between two searches.
+// Entries and classes stay two rows: the entries are lent, and have no place for a class.
 #[derive(Drop)]
 struct UnderRepair<'a> {
     entries: &'a mut [Entry],
@@ -103,7 +104,7 @@ impl UnderRepair<'_> {
     {
         let classes = self.classes;
         let class = classes[captor];
-        // No `zip`: after an adapter of `iter_mut` nothing is known of what was written.
+        // No `zip` of both: after it nothing is known of what was written.
         for (place, entry) in self.entries.iter_mut().enumerate() {
             if are_together(class, classes[place]) {
                 entry.node.name = name;
@@ -156,6 +157,7 @@ impl UnderRepair<'_> {
         ensures after { self.new.entries.now ≡ with_origins self.old.entries.now (repair (T.Language.visible (shape (nodes self.old.entries.now))) self.old.classes.now (nodes self.old.entries.now)).program }
         ensures rows { SameRows self.old self.new }
     {
+        // Counted by hand, as the loop of rounds ends with their number.
         let mut count: usize = 0;
         let rounds = loop {
             if !self.round::<T>() {
@@ -167,7 +169,7 @@ impl UnderRepair<'_> {
     }
 }
 
-// Goes on in rounds until one finds no captor, and answers how many found one.
+// The same of a draft whose entries, classes and marks are lent one by one.
 pub fn repair_names<T: Language>(
     entries: &mut [Entry],
     classes: &[Option<Class>],

@@ -38,11 +38,12 @@ fn value_of(digits: &[u8], most: u32) -> Option<u32>
 {
     let mut n: u64 = 0;
     for b in digits {
-        n = n * 10 + (*b - b'0') as u64;
-        if n > most as u64 {
+        n = n * 10 + u64::from(*b - b'0');
+        if n > u64::from(most) {
             return None;
         }
     }
+    // proved to lose nothing; `try_from` would have an error that cannot be
     Some(n as u32)
 }
 

@@ -10,7 +10,8 @@ use model::kinds::{Kind, Role};
 use model::nodes::{Entry, Name, Node, Origin};
 
 // Whether a text is a script, or a draft with the origins of its names. The definitions call them `plain` and
-// `draft`; one type for both would take the names of a role and of a draft's own type there.
+// `draft`; one type for both would take the names of a role and of a draft's own type there. It is never compared
+// or printed.
 #[derive(Clone, Copy)]
 pub enum Form {
     Script,

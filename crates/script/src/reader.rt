@@ -1,4 +1,5 @@
-// Reads a text, script or draft, into a lent row of entries.
+// Reads a text, script or draft, into a lent row of entries. A text is bytes, as it may hold any: a line that is
+// no text is refused by its number. The form goes along as an enum of two cases, matched once.
 ghost use Rattle.std.specs.Prelude.{◌≡◌, ◌≤◌, [], ◌∷◌, length, IfOk, None};
 ghost use Rattle.model.specs.declared.kinds.Sort.TheVariants.{Root};
 ghost use Rattle.model.specs.Fields.{plain, draft};
@@ -30,7 +31,7 @@ struct FirstLine<'a> {
 }
 
 // The entry of the first line, if a line end follows.
-fn first_line<'a>(form: Form, text: &'a [u8]) -> Option<FirstLine<'a>>
+fn first_line(form: Form, text: &[u8]) -> Option<FirstLine<'_>>
     ensures { IsFirstLine (form_of form) text.now result }
 {
     let end = place_of(text, b'\n')?;
@@ -89,8 +90,7 @@ fn fill_row<G: Grammar>(form: Form, text: &[u8], row: &mut [Entry]) -> Result<us
     if text.len() > LONGEST_TEXT {
         return Err(TextFault::Read(ReadFault::TooLong));
     }
-    let count = read_lines::<G>(form, text, row)?;
-    Ok(count)
+    Ok(read_lines::<G>(form, text, row)?)
 }
 
 // The same, with every place of the row unused after a refusal.

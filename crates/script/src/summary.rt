@@ -17,7 +17,7 @@ pub fn count_kind(program: &[Entry], kind: Kind) -> usize
 }
 
 // The bytes of a line, without its end; none past the last line.
-pub fn line<'a>(text: &'a [u8], number: usize) -> &'a [u8]
+pub fn line(text: &[u8], number: usize) -> &[u8]
     ensures { result.now ≡ (slice_index_or (lines text.now) number no_line).bytes }
 {
     text.split(|b| *b == b'\n').nth(number).unwrap_or(&[])

@@ -1,5 +1,5 @@
 // Writes a program as text into a lent buffer.
-ghost use Rattle.std.specs.Prelude.{◌≡◌, ◌≤◌, length, decimal, IfOk};
+ghost use Rattle.std.specs.Prelude.{◌≡◌, ◌≤◌, ◌*◌, length, decimal, IfOk};
 ghost use Rattle.model.specs.Names.{letters, nodes};
 ghost use Rattle.model.specs.Fields.{plain, write_mark, write_name};
 ghost use Rattle.model.specs.Writing.{write_line, write_lines, write_into, measured, buffer_after};
@@ -24,6 +24,8 @@ fn characters(stem: &[u8]) -> &[u8]
     }
 }
 
+// What a call asks room for is its own text, so each says it; a type could not.
+// `as` is proved to lose nothing here; `try_from` would have an error that cannot be.
 fn put_number<S: Sink>(out: &mut S, n: u32)
     requires { S.room out.old (length (decimal n)) }
     ensures put { S.grown out.old (decimal n) out.new }
@@ -78,13 +80,11 @@ fn put_number_field<S: Sink>(out: &mut S, most: Option<u32>, n: u32)
     ensures put { S.grown out.old (number_text most n) out.new }
     ensures short { length (number_text most n) ≤ 11 }
 {
-    match most {
-        None => (),
-        Some(_) => {
-            out.put(b"\t");
-            put_number(out, n);
-        }
-    }
+    let Some(_) = most else {
+        return;
+    };
+    out.put(b"\t");
+    put_number(out, n);
 }
 
 // One line.
@@ -100,31 +100,21 @@ fn put_line<S: Sink>(out: &mut S, entry: &Entry)
     out.put(b"\n");
 }
 
-fn line_length(entry: &Entry) -> usize
-    ensures is { result ≡ length (write_line plain entry.now) }
-    ensures small { result ≤ 64 }
-{
-    let mut counter = Counter { length: 0 };
-    put_line(&mut counter, entry);
-    counter.length
-}
-
 // How long the text is.
 fn text_length(entries: &[Entry]) -> usize
     requires { length entries.now ≤ 1024 }
     ensures { result ≡ length (write_lines plain entries.now) }
 {
-    let mut sum = 0;
-    for entry in entries {
-        sum += line_length(entry);
-    }
-    sum
+    let mut counter = Counter { length: 0 };
+    put_lines(&mut counter, entries);
+    counter.length
 }
 
 // All lines.
 fn put_lines<S: Sink>(out: &mut S, entries: &[Entry])
     requires { S.room out.old (length (write_lines plain entries.now)) }
-    ensures { S.grown out.old (write_lines plain entries.now) out.new }
+    ensures put { S.grown out.old (write_lines plain entries.now) out.new }
+    ensures short { length (write_lines plain entries.now) ≤ 64 * length entries.now }
 {
     for entry in entries {
         put_line(out, entry);

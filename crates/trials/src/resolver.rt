@@ -25,6 +25,7 @@ pub struct Resolver {
     lines: Vec<Declared>,
     own_line: Option<Declared>,
     entered: usize,
+    // whether the first tree goes on; in an option, the lines would be taken out and put back at each node
     in_card: bool,
 }
 
@@ -144,6 +145,7 @@ impl Dice {
 fn random_kind(dice: &mut Dice, root: Kind) -> Kind {
     let mut kind = root;
     for _turn in 0..6 {
+        // there is no `From` for it, as a `usize` may have 16 bits in Rust
         if let Some(drawn) = all_kinds().get(dice.roll(25) as usize) {
             kind = drawn.kind;
             if ByRoot::is_below(root, kind) {

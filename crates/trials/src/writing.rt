@@ -8,11 +8,16 @@ use script::reader::{read, read_draft};
 use script::writer::write;
 use std::test::Fail;
 
+// Whether a program is written as that script.
+fn is_written_as(script: &[u8], program: &[Entry], buffer: &mut [u8]) -> Result<bool, TextFault> {
+    let length = write(program, buffer)?;
+    Ok(&buffer[..length] == script)
+}
+
 // Whether a script comes back.
 fn write_back(text: &[u8], row: &mut [Entry], buffer: &mut [u8]) -> Result<bool, TextFault> {
     let count = read::<ByRoot>(text, row)?;
-    let length = write(&row[..count], buffer)?;
-    Ok(&buffer[..length] == text)
+    is_written_as(text, &row[..count], buffer)
 }
 
 // Whether a draft is written as that script.
@@ -23,8 +28,7 @@ fn write_program(
     buffer: &mut [u8],
 ) -> Result<bool, TextFault> {
     let count = read_draft::<ByRoot>(draft, row)?;
-    let length = write(&row[..count], buffer)?;
-    Ok(&buffer[..length] == script)
+    is_written_as(script, &row[..count], buffer)
 }
 
 const TEXT: &[u8] = b"flat\t2\nslot\ta'65535\nemit\nnum\t2147483647\n";

@@ -9,5 +9,5 @@ a_number_text o most n e = ap (λ (p : Option ℕ). number_text p n) e
 pub put_number-requires : goal.put_number-requires
 put_number-requires g c = next_room g.S.Sink.laws _ _ _ _ (a_number_text c.args.most _ c.args.n c.in-Some.is) c.requires _ c.put.ensures
 
-pub returns-in-Some-clause-put : goal.returns-in-Some-clause-put
-returns-in-Some-clause-put g c = both_put g.S.Sink.laws _ _ _ _ (a_number_text c.args.most _ c.args.n c.in-Some.is) c.requires _ _ c.put.ensures c.put_number.ensures.put
+pub returns-clause-put : goal.returns-clause-put
+returns-clause-put g c = both_put g.S.Sink.laws _ _ _ _ (a_number_text c.args.most _ c.args.n c.in-Some.is) c.requires _ _ c.put.ensures c.put_number.ensures.put

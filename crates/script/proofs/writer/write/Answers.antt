@@ -23,10 +23,10 @@ pub returns-clause-after : goal.returns-clause-after
 returns-clause-after c =
     let d = c.args.buffer.now in
     let e = sym (write_fits c.args.program.now (length d) c.if-program-gt-MOST_NODES.false (omega (arith, c.text_length-needed.ensures, c.if-needed-buffer.false))) in
-    let same = sym c.put_lines.ensures.same in
-    (search rules) ∙ (c.put_lines.ensures.bytes ∙ (front_pasted _ d ∙ ap (λ (w : Result (List ℕ) TextFault). buffer_after w d) e))
+    let same = sym c.put_lines.ensures.put.same in
+    (search rules) ∙ (c.put_lines.ensures.put.bytes ∙ (front_pasted _ d ∙ ap (λ (w : Result (List ℕ) TextFault). buffer_after w d) e))
 
 pub returns-clause-back : goal.returns-clause-back
 returns-clause-back c =
-    let same = sym c.put_lines.ensures.same in
-    written_back c.args.program.now c.args.buffer.now _ c.text_length-needed.result c.text_length-needed.ensures ((search rules) ∙ c.put_lines.ensures.bytes)
+    let same = sym c.put_lines.ensures.put.same in
+    written_back c.args.program.now c.args.buffer.now _ c.text_length-needed.result c.text_length-needed.ensures ((search rules) ∙ c.put_lines.ensures.put.bytes)
