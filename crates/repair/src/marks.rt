@@ -1,5 +1,6 @@
 // Fresh marks: the marks in use with a stem are noted as bits of a lent row of words, mark 0 lowest
 // in the first, and the lowest bit that is clear above bit 0 is the mark to take.
+// A program and a name are two arguments, as callers have them; a struct of both would say no more.
 ghost use Rattle.std.specs.Prelude.{◌≡◌, ◌/◌, ◌%◌, ◌^◌, ◌<◌, ◌≤◌, length, replicate, bit_or, nat_eq, slice_index, slice_set};
 ghost use Rattle.model.specs.Lists.{any};
 ghost use Rattle.model.specs.Names.{nodes};
@@ -81,7 +82,8 @@ fn is_in_use(program: &[Entry], name: &Name, mark: u16) -> bool
 }
 
 // The smallest mark from 1 on that no name with that stem has, by noting them. Where all that can be
-// noted are in use, at most one name is left, so it is the next mark or the one after it.
+// noted are in use, at most one name is left, so it is the next mark or the one after it. Words are lent by
+// themselves here, so each call says that they are clear.
 fn seek_mark(program: &[Entry], name: &Name, words: &mut [u64; WORDS]) -> u16
     requires few { length program.now ≤ 1024 }
     requires clear { words.old ≡ replicate 16 0 }

@@ -32,7 +32,8 @@ fn class_reached(classes: &[Option<Class>], reached: Option<usize>) -> Option<Cl
     *classes.get(reached?)?
 }
 
-// What the names of a draft belong to, and what they reach at the start of a round.
+// What the names of a draft belong to, and what they reach at the start of a round. Each method asks of its own
+// number that it is a name's.
 #[derive(Drop)]
 struct Names<'a> {
     classes: &'a [Option<Class>],
@@ -81,7 +82,8 @@ impl Names<'_> {
 }
 
 // A draft under repair: its entries, the class of each, and a lent row for marks, zero between two searches.
-// Entries and classes stay two rows: the entries are lent, and have no place for a class.
+// Entries and classes stay two rows: the entries are lent, and have no place for a class. That the same rows are
+// lent is said by each method of its own two states.
 #[derive(Drop)]
 struct UnderRepair<'a> {
     entries: &'a mut [Entry],

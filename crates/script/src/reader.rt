@@ -1,5 +1,6 @@
 // Reads a text, script or draft, into a lent row of entries. A text is bytes, as it may hold any: a line that is
-// no text is refused by its number. The form goes along as an enum of two cases, matched once.
+// no text is refused by its number. The form goes along as an enum of two cases, matched once; form, text and row
+// are three arguments, as callers have them.
 ghost use Rattle.std.specs.Prelude.{◌≡◌, ◌≤◌, [], ◌∷◌, length, IfOk, None};
 ghost use Rattle.model.specs.declared.kinds.Sort.TheVariants.{Root};
 ghost use Rattle.model.specs.Fields.{plain, draft};
