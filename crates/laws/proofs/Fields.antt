@@ -1,5 +1,5 @@
 -- The fields of a line, in three parts: name, number, origin.
-use Rattle.std.proofs.Common.{◌≡◌, ℕ, Bool, true, false, cond, ◌&&◌, eqb, List, [], ◌∷◌, ◌++◌, Some, None, decimal, Option, sym, refl, ap, ◌∙◌, subst, arith}
+use Rattle.std.proofs.Common.{◌≡◌, ℕ, ◌^◌, ◌<◌, Bool, true, false, cond, ◌&&◌, eqb, leb, List, [], ◌∷◌, ◌++◌, Some, None, decimal, Option, sym, refl, ap, ◌∙◌, subst, arith}
 use Rattle.std.proofs.lemmas.Bool.{cond-true, cond-false, and_parts, le-leb, leb-true, eq-eqb, eqb-true}
 use Rattle.std.proofs.lemmas.Option.{none-some, cond_some}
 use Rattle.model.specs.declared.kinds.Kind.{Kind}
@@ -34,25 +34,22 @@ pub record Originated (f : List ℕ) (o : Origin) : Type 0 where
   pub written : f ≡ write_origin o
   pub fits : origin_fits true o ≡ true
 
-copied_read : (c : ℕ) (cs : List ℕ) (o : Origin) → c ≡ 115 → if_some (number_field 1023 cs) (λ k. Some (Copied k)) ≡ Some o → Originated (c ∷ cs) o
-copied_read c cs o e h =
-    let w = went (number_field 1023 cs) (λ k. Some (Copied k)) o h in
-    let r = number_read 1023 w.value cs (omega arith) w.was in
-    let s : Copied w.value ≡ o = (let g = w.gave in cc) in
+-- a letter, and a number of at most so much
+lettered_read : (letter most : ℕ) (made : ℕ → Origin) → most < 2 ^ 64 → ((k : ℕ) → write_origin (made k) ≡ letter ∷ decimal k) → ((k : ℕ) → origin_fits true (made k) ≡ leb k most) → (c : ℕ) (cs : List ℕ) (o : Origin) → c ≡ letter → if_some (number_field most cs) (λ k. Some (made k)) ≡ Some o → Originated (c ∷ cs) o
+lettered_read letter most made l spelled limit c cs o e h =
+    let w = went (number_field most cs) (λ k. Some (made k)) o h in
+    let r = number_read most w.value cs l w.was in
+    let s : made w.value ≡ o = (let g = w.gave in cc) in
     record {
-      written = ap (λ (x : ℕ). x ∷ cs) e ∙ ap (λ (x : List ℕ). 115 ∷ x) r.0 ∙ ap write_origin s;
-      fits = ap (origin_fits true) (sym s) ∙ le-leb w.value 1023 r.1;
+      written = ap (λ (x : ℕ). x ∷ cs) e ∙ ap (λ (x : List ℕ). letter ∷ x) r.0 ∙ sym (spelled w.value) ∙ ap write_origin s;
+      fits = ap (origin_fits true) (sym s) ∙ limit w.value ∙ le-leb w.value most r.1;
     }
 
+copied_read : (c : ℕ) (cs : List ℕ) (o : Origin) → c ≡ 115 → if_some (number_field 1023 cs) (λ k. Some (Copied k)) ≡ Some o → Originated (c ∷ cs) o
+copied_read = lettered_read 115 1023 Copied (omega arith) (λ k. refl) (λ k. refl)
+
 private_read : (c : ℕ) (cs : List ℕ) (o : Origin) → c ≡ 112 → if_some (number_field 65535 cs) (λ k. Some (Private k)) ≡ Some o → Originated (c ∷ cs) o
-private_read c cs o e h =
-    let w = went (number_field 65535 cs) (λ k. Some (Private k)) o h in
-    let r = number_read 65535 w.value cs (omega arith) w.was in
-    let s : Private w.value ≡ o = (let g = w.gave in cc) in
-    record {
-      written = ap (λ (x : ℕ). x ∷ cs) e ∙ ap (λ (x : List ℕ). 112 ∷ x) r.0 ∙ ap write_origin s;
-      fits = ap (origin_fits true) (sym s) ∙ le-leb w.value 65535 r.1;
-    }
+private_read = lettered_read 112 65535 Private (omega arith) (λ k. refl) (λ k. refl)
 
 is_empty : (cs : List ℕ) → empty cs ≡ true → cs ≡ []
 is_empty [] h = refl

@@ -18,7 +18,7 @@ use Rattle.model.specs.Names.{root_of, nodes}
 use Rattle.model.specs.Fields.{Form, plain, draft, read_fields, wanted, bare, kind_of}
 use Rattle.model.specs.Reading.{TextLine, lines, of_fields, read_line, heading, ReadOut, with_entry, read_lines}
 use Rattle.model.specs.Fitting.{fits, name_fits, number_fits}
-use Rattle.laws.proofs.Pieces.{Over, Free, free_over, after_each, AllFree, pieces_joined, cut, line_of, lines_ended, end_of, unlines, went}
+use Rattle.laws.proofs.Pieces.{Over, Free, over_less, free_over, after_each, AllFree, pieces_joined, cut, line_of, lines_ended, end_of, unlines, went}
 use Rattle.laws.proofs.Numbers.{over_decimal}
 use Rattle.laws.proofs.NamesRead.{over_name}
 use Rattle.laws.proofs.KindTests.{SmallMost, most_small, word_over, word_is, word_read}
@@ -37,10 +37,6 @@ text form (n ∷ ns) = body form n ++ (10 ∷ text form ns)
 AllOver : List (List ℕ) → Type 0
 AllOver fs = All (Over 39) fs
 
-down : (bs : List ℕ) → Over 48 bs → Over 39 bs
-down [] h = tt
-down (b ∷ bs) h = let k : 48 ≤ b = h.0 in (omega arith, down bs h.1)
-
 name_fields_over : (r : Role) (a : Name) → name_fits (role_named r) a ≡ true → AllOver (name_fields r a)
 unfolding AllOver
 name_fields_over Plain a h = tt
@@ -50,14 +46,14 @@ name_fields_over Refers a h = (over_name a h, tt)
 number_fields_over : (o : Option ℕ) (x : ℕ) → SmallMost o → number_fits o x ≡ true → AllOver (number_fields o x)
 unfolding AllOver
 number_fields_over None x s h = tt
-number_fields_over (Some most) x s h = let l = leb-true x most h in (down (decimal x) (over_decimal x (omega arith)), tt)
+number_fields_over (Some most) x s h = let l = leb-true x most h in (over_less 39 48 (decimal x) (omega arith) (over_decimal x (omega arith)), tt)
 
 origin_fields_over : (form : Form) (r : Role) (o : Origin) → origin_ok form (role_named r) o ≡ true → AllOver (origin_fields form r o)
 unfolding AllOver
 origin_fields_over plain r o h = tt
 origin_fields_over draft Plain o h = tt
-origin_fields_over draft Declares o h = (down _ (over_origin o h), tt)
-origin_fields_over draft Refers o h = (down _ (over_origin o h), tt)
+origin_fields_over draft Declares o h = (over_less 39 48 _ (omega arith) (over_origin o h), tt)
+origin_fields_over draft Refers o h = (over_less 39 48 _ (omega arith) (over_origin o h), tt)
 
 fields_over : (form : Form) (n : Entry) → ProperNode form n → AllOver (fields form n)
 unfolding AllOver

@@ -10,7 +10,7 @@ use Rattle.model.specs.Lists.{any, between, if_some}
 use Rattle.model.specs.Names.{alike, padded, letters}
 use Rattle.model.specs.Fields.{small_letter, letter_or_digit, stem_form, named, written_mark, of_pieces, name_field, number_field, write_mark, write_name}
 use Rattle.model.specs.Fitting.{name_fits}
-use Rattle.laws.proofs.Pieces.{Over, Free, free_over, after_each, cut, pieces_joined, went}
+use Rattle.laws.proofs.Pieces.{Over, Free, over_less, free_over, after_each, cut, pieces_joined, went}
 use Rattle.laws.proofs.Numbers.{number_written, number_read, over_decimal}
 
 pub alike_same : (a b : Name) → alike a b ≡ true → a ≡ b
@@ -163,19 +163,11 @@ name_read f a h = let c = cut 39 f in go c.first c.more c.together (ap of_pieces
 over_mark : (m : ℕ) → m ≤ 65535 → Over 39 (write_mark m)
 over_mark m l = go (eqb m 0) refl
   where
-    down : (bs : List ℕ) → Over 48 bs → Over 39 bs
-    down [] h = tt
-    down (b ∷ bs) h = let k : 48 ≤ b = h.0 in (omega arith, down bs h.1)
-
     go : (t : Bool) → eqb m 0 ≡ t → Over 39 (write_mark m)
     go true e = subst (Over 39) (sym (cond-true (eqb m 0) _ _ e)) tt
-    go false e = subst (Over 39) (sym (cond-false (eqb m 0) _ _ e)) (omega arith, down (decimal m) (over_decimal m (omega arith)))
+    go false e = subst (Over 39) (sym (cond-false (eqb m 0) _ _ e)) (omega arith, over_less 39 48 (decimal m) (omega arith) (over_decimal m (omega arith)))
 
 pub over_name : (a : Name) → name_fits true a ≡ true → Over 39 (write_name a)
 over_name a h =
     let n = a_name a h in
-    All-append (λ b. 39 ≤ b) (letters a.stem) (write_mark a.mark) (down (letters a.stem) (stem_over (letters a.stem) n.stem).0) (over_mark a.mark n.small)
-  where
-    down : (bs : List ℕ) → Over 48 bs → Over 39 bs
-    down [] h = tt
-    down (b ∷ bs) h = let k : 48 ≤ b = h.0 in (omega arith, down bs h.1)
+    All-append (λ b. 39 ≤ b) (letters a.stem) (write_mark a.mark) (over_less 39 48 (letters a.stem) (omega arith) (stem_over (letters a.stem) n.stem).0) (over_mark a.mark n.small)

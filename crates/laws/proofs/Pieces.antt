@@ -22,6 +22,10 @@ pub over_all : (m : ℕ) (bs : List ℕ) → over m bs ≡ true → Over m bs
 over_all m [] h = tt
 over_all m (b ∷ bs) h = let p = and_parts (leb m b) (over m bs) h in (leb-true m b p.0, over_all m bs p.1)
 
+pub over_less : (m n : ℕ) (bs : List ℕ) → m ≤ n → Over n bs → Over m bs
+over_less m n [] l h = tt
+over_less m n (b ∷ bs) l h = let k : n ≤ b = h.0 in (omega arith, over_less m n bs l h.1)
+
 pub free_over : (m s : ℕ) (bs : List ℕ) → s < m → Over m bs → Free s bs
 free_over m s [] l h = tt
 free_over m s (b ∷ bs) l h = let k : m ≤ b = h.0 in (λ e. omega arith, free_over m s bs l h.1)
