@@ -8,8 +8,9 @@ use Rattle.model.specs.Lists.{any, first_with, is_none, counting, places}
 use Rattle.model.specs.declared.classes.Class.{Class}
 use Rattle.model.specs.Classes.{together}
 use Rattle.model.specs.Repair.{leads, captures}
+use Rattle.promise.proofs.Classes.{none_is}
 use Rattle.repair.specs.Rounds.{captured, lowest_captive}
-use Rattle.repair.proofs.Firsts.{any_places}
+use Rattle.repair.proofs.Firsts.{any_places, none_found}
 
 -- one passes exactly if there is a first that does
 pub any_first : {A : Type 0} (t : A → Bool) (xs : List A) → any t xs ≡ not (is_none (first_with t xs))
@@ -30,6 +31,10 @@ captures_some cs rs captor o e = some_not_none o ∙ (ap (λ (f : Option ℕ). n
 
 pub captor_so : (cs rs : List (Option Class)) (captor : ℕ) (o : Option ℕ) (r : Bool) → r ≡ is_some o → o ≡ lowest_captive cs rs captor → leads cs captor ≡ true → r ≡ (leads cs captor && captures cs rs captor)
 captor_so cs rs captor o r is e h = (is ∙ captures_some cs rs captor o e) ∙ ap (λ (b : Bool). b && captures cs rs captor) (sym h)
+
+-- whoever is of no class catches nobody
+pub catches_nobody : (cs rs : List (Option Class)) (captor : ℕ) → is_some (get_or cs captor None) ≡ false → captures cs rs captor ≡ false
+catches_nobody cs rs captor e = any_first (captured cs rs captor) (places cs) ∙ ap (λ (f : Option ℕ). not (is_none f)) (none_found (captured cs rs captor) 0 (length cs) (λ i a b. ap (λ (c : Option Class). together c (get_or rs i None) && not (together c (get_or cs i None))) (none_is (get_or cs captor None) e)))
 
 -- no name before it is of the class
 pub leads_is : (cs : List (Option Class)) (e : ℕ) → e < length cs → not (list_any (together (get_or cs e None)) (take e cs)) ≡ leads cs e

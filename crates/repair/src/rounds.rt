@@ -72,11 +72,15 @@ impl Names<'_> {
         (0..self.classes.len()).find(|at| self.is_caught(*at, captor))
     }
 
-    // Whether the name is the lowest of a class that captures another.
+    // Whether the name is the lowest of a class that captures another. A node without a name is told at once: it
+    // leads whatever there is, and catches nobody.
     fn is_captor(&self, at: usize) -> bool
         requires { at < length self.now.classes.now }
         ensures { result ≡ (leads_class self.now.classes.now at && captures self.now.classes.now (classes_of self.now.classes.now self.now.reached.now) at) }
     {
+        if self.classes[at].is_none() {
+            return false;
+        }
         self.leads(at) && self.captive(at).is_some()
     }
 }
