@@ -1,5 +1,5 @@
 -- Where trees end, as a walk over the entries counts the nodes that are wanted.
-use Rattle.std.proofs.Common.{◌≡◌, ℕ, zero, suc, ◌+◌, ◌-◌, ◌<◌, ◌≤◌, min, List, length, get_or, take, drop, sym, refl, ap, ◌∙◌, inl, inr, arith}
+use Rattle.std.proofs.Common.{◌≡◌, ℕ, zero, suc, ◌+◌, ◌-◌, ◌^◌, ◌<◌, ◌≤◌, min, List, length, get_or, take, drop, sym, refl, ap, ap₂, ◌∙◌, inl, inr, arith}
 use Rattle.std.proofs.lemmas.List.{get_or-drop, take_all, drop_all, length-drop}
 use Rattle.std.proofs.lemmas.Bool.{cases_lt}
 use Rattle.model.specs.declared.nodes.Node.{Node}
@@ -9,6 +9,7 @@ use Rattle.model.specs.Forest.{Forest, nil, tree, arity, first, size, width, gro
 use Rattle.laws.specs.Walks.{beyond}
 use Rattle.laws.proofs.Entries.{node_of}
 use Rattle.laws.proofs.Forests.{size_grow}
+use Rattle.laws.proofs.RoundTrips.{length_nodes}
 use Rattle.laws.proofs.Walks.{first_nil, beyond_more, steps_at}
 
 width_size : {A : Type 0} (f : Forest A) → width f ≤ size f
@@ -49,6 +50,9 @@ none_left p at k l =
     let e = ap (λ (f : Forest Node). size f) (ap (λ (ns : List Node). first k (grow ns)) (drop_all at p l) ∙ first_nil k) in
     omega arith
 
+pub none_wanted : (p : List Node) (at k : ℕ) → k ≡ 0 → beyond p at k ≡ at
+none_wanted p at k z = ap (beyond p at) z ∙ omega arith
+
 -- the entries from a place on
 
 rest_is : (es : List Entry) (from : ℕ) → take (length es - from) (drop from es) ≡ drop from es
@@ -61,3 +65,14 @@ pub entry_on : (es : List Entry) (from i : ℕ) → (get_or (take (length es - f
 entry_on es from i =
     ap (λ (xs : List Entry). (get_or xs i blank_entry).node) (rest_is es from)
     ∙ (ap (λ (e : Entry). e.node) (get_or-drop from es i blank_entry) ∙ node_of es (from + i))
+
+-- the walk one entry further, where trees were wanted
+pub walked_on : (es : List Entry) (from passed wanted below next end : ℕ) → length es ≤ 2 ^ 64 - 1 → from + passed < length es → 0 < wanted → below ≡ arity (get_or (take (length es - from) (drop from es)) passed blank_entry).node → next ≡ min (wanted - 1 + below) (2 ^ 64 - 1) → beyond (nodes es) (from + passed) wanted ≡ end → beyond (nodes es) (from + (passed + 1)) next ≡ end
+walked_on es from passed wanted below next end fits l w b n before =
+    let on : from + (passed + 1) ≡ from + passed + 1 = omega arith in
+    let long = length_nodes es in
+    let inside : from + passed < length (nodes es) = omega (arith, long) in
+    let sum : next ≡ min (min (wanted - 1 + below) (2 ^ 64 - 1)) (2 ^ 64 - 1) = omega (arith, n) in
+    ap₂ (beyond (nodes es)) on sum
+    ∙ (wanted_on (nodes es) (from + passed) wanted below (2 ^ 64 - 1) (2 ^ 64 - 1) inside w (b ∙ ap arity (entry_on es from passed)) (omega (arith, long, fits)) (omega arith)
+    ∙ before)

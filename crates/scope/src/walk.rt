@@ -14,12 +14,12 @@ pub fn next_tree(program: &[Entry], from: usize) -> usize
     }
     let mut wanted: usize = 1;
     for (passed, entry) in program[from..].iter().enumerate() {
-        if wanted == 0 {
-            return from + passed;
-        }
-        // more than there are nodes can't come, so a sum too large to count is as good as all
+        // more than there are nodes can't come, so a sum too large to count is as good as any
         let below = entry.node.arity();
-        wanted = (wanted - 1).saturating_add(below).min(program.len());
+        wanted = (wanted - 1).saturating_add(below);
+        if wanted == 0 {
+            return from + passed + 1;
+        }
     }
     program.len()
 }
