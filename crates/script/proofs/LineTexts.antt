@@ -1,7 +1,9 @@
 -- The text of a line by the code's row of its kind, and lines one after another.
-use Rattle.std.proofs.Common.{◌≡◌, ℕ, ◌+◌, ◌<◌, ◌≤◌, true, eqb, List, [], ◌∷◌, ◌++◌, length, get_or, take, drop, Some, None, decimal, Option, sym, refl, ap, ◌∙◌, append_assoc, append-nil, arith, length-append, take-append-drop}
+use Rattle.std.proofs.Common.{◌≡◌, ℕ, zero, suc, ◌+◌, ◌^◌, ◌<◌, ◌≤◌, true, leb, eqb, List, [], ◌∷◌, ◌++◌, length, get_or, take, drop, Some, None, decimal, Option, sym, refl, ap, ◌∙◌, append_assoc, append-nil, arith, length-append, take-append-drop}
 use Rattle.std.proofs.lemmas.List.{take_more}
-use Rattle.std.proofs.lemmas.Bool.{cond-true, cond-false, ne_eqb}
+use Rattle.std.proofs.lemmas.Fmt.{length-decimal-le}
+use Rattle.std.proofs.lemmas.Bool.{cond-true, cond-false, ne_eqb, leb-true}
+use Rattle.model.specs.declared.kinds.Kind.{Kind}
 use Rattle.model.specs.declared.kinds.Role.{Role}
 use Rattle.model.specs.declared.kinds.Role.TheVariants.{Plain, Declares, Refers}
 use Rattle.model.specs.declared.kinds.KindRow.{KindRow}
@@ -13,10 +15,15 @@ use Rattle.model.specs.Names.{nodes}
 use Rattle.model.specs.Fields.{plain, the_name, the_number, write_mark, write_name, write_fields}
 use Rattle.model.specs.Writing.{write_line, write_lines, write}
 use Rattle.model.specs.Table.{RowOf, shown, row_of}
+use Rattle.model.proofs.KindTables.{every_kind}
 use Rattle.script.specs.Buffers.{name_text, number_text}
 
 pub mark_some : (m : ℕ) → (m ≡ 0 → ⊥) → write_mark m ≡ 39 ∷ decimal m
 mark_some m e = cond-false (eqb m 0) _ _ (ne_eqb m 0 e)
+
+pub mark_short : (m : ℕ) → m < 2 ^ 16 → length (write_mark m) ≤ 6
+mark_short zero h = omega arith
+mark_short (suc k) h = omega (arith, ap length (mark_some (suc k) (λ e. omega (arith, e))), length-decimal-le 5 (suc k) (omega arith) (omega (arith, h)) (omega (arith, h)))
 
 pub a_name_text : (r : Role) (a : Name) → role_named r ≡ true → name_text r a ≡ 9 ∷ write_name a
 a_name_text r a e = cond-true (role_named r) (9 ∷ write_name a) [] e
@@ -42,6 +49,16 @@ line_parts x e s =
     ap (λ (l : List ℕ). (row k).word ++ (l ++ (10 ∷ []))) (text_fields (row k).role (row k).most e)
     ∙ (ap (λ (l : List ℕ). (row k).word ++ l) (append_assoc a m (10 ∷ []))
     ∙ sym (ap (λ (t : RowOf). t.row.word ++ (name_text t.row.role e.node.name ++ (number_text t.row.most e.node.number ++ (10 ∷ [])))) s))
+
+word_short : (k : Kind) → length (row k).word ≤ 5
+word_short k = leb-true (length (row k).word) 5 (every_kind (λ l. leb (length (row l).word) 5) refl k)
+
+pub row_word_short : (x : KindRow) (k : Kind) → shown x ≡ row_of k → length x.word.now ≤ 5
+row_word_short x k s = omega (arith, ap (λ (t : RowOf). length t.row.word) s, word_short k)
+
+pub number_short : (o : Option ℕ) (n : ℕ) → n < 2 ^ 32 → length (number_text o n) ≤ 11
+number_short None n h = omega arith
+number_short (Some most) n h = omega (arith, length-decimal-le 10 n (omega arith) (omega (arith, h)) (omega (arith, h)))
 
 -- Lines
 

@@ -1,5 +1,5 @@
 // Writes a program as text into a lent buffer.
-ghost use Rattle.std.specs.Prelude.{◌≡◌, ◌≤◌, ◌*◌, length, decimal, IfOk};
+ghost use Rattle.std.specs.Prelude.{◌≡◌, ◌≤◌, ◌*◌, length, min, decimal, IfOk};
 ghost use Rattle.model.specs.Names.{letters, nodes};
 ghost use Rattle.model.specs.Fields.{plain, write_mark, write_name};
 ghost use Rattle.model.specs.Writing.{write_line, write_lines, write_into, measured, buffer_after};
@@ -13,6 +13,10 @@ use model::faults::{ReadFault, TextFault};
 use model::kinds::Role;
 use model::nodes::{Entry, Name};
 
+// A word of at most 5 bytes, a tab and a name of at most 14, a tab and a number of at most 10,
+// and the line's end.
+const LONGEST_LINE: usize = 32;
+
 // The characters of a stem, which stand before its zeros.
 fn characters(stem: &[u8]) -> &[u8]
     ensures are { result.now ≡ letters stem.now }
@@ -24,26 +28,32 @@ fn characters(stem: &[u8]) -> &[u8]
     }
 }
 
-// What a call asks room for is its own text, so each says it; a type could not.
+// What a call asks room for is its own text, so each says it; a type could not. Behind a reference
+// it is not known how long the text can be, so there as much room as for the longest is enough too.
+// The digits are found from the last on, and put at once; by hand, as the library prints to a formatter that may fail.
 // `as` is proved to lose nothing here; `try_from` would have an error that cannot be.
 fn put_number<S: Sink>(out: &mut S, n: u32)
     requires { S.room out.old (length (decimal n)) }
     ensures put { S.grown out.old (decimal n) out.new }
     ensures short { length (decimal n) ≤ 10 }
 {
-    if n < 10 {
-        out.put(&[b'0' + n as u8]);
-        return;
+    let mut digits = [0; 10];
+    let mut first = 9;
+    let mut left = n;
+    while left >= 10 {
+        digits[first] = b'0' + (left % 10) as u8;
+        left /= 10;
+        first -= 1;
     }
-    put_number(out, n / 10);
-    out.put(&[b'0' + (n % 10) as u8]);
+    digits[first] = b'0' + left as u8;
+    out.put(&digits[first..]);
 }
 
 // An apostrophe and the mark, unless it is 0.
 fn put_mark<S: Sink>(out: &mut S, mark: u16)
     requires { S.room out.old (length (write_mark mark)) }
     ensures put { S.grown out.old (write_mark mark) out.new }
-    ensures short { length (write_mark mark) ≤ 11 }
+    ensures short { length (write_mark mark) ≤ 6 }
 {
     if mark == 0 {
         return;
@@ -53,9 +63,9 @@ fn put_mark<S: Sink>(out: &mut S, mark: u16)
 }
 
 fn put_name<S: Sink>(out: &mut S, name: &Name)
-    requires { S.room out.old (length (write_name name.now)) }
+    requires { S.room out.old (min (length (write_name name.now)) 14) }
     ensures put { S.grown out.old (write_name name.now) out.new }
-    ensures short { length (write_name name.now) ≤ 19 }
+    ensures short { length (write_name name.now) ≤ 14 }
 {
     out.put(characters(&name.stem));
     put_mark(out, name.mark);
@@ -63,9 +73,9 @@ fn put_name<S: Sink>(out: &mut S, name: &Name)
 
 // A tab and the name, where the kind has one.
 fn put_name_field<S: Sink>(out: &mut S, role: Role, name: &Name)
-    requires { S.room out.old (length (name_text role name.now)) }
+    requires { S.room out.old (min (length (name_text role name.now)) 15) }
     ensures put { S.grown out.old (name_text role name.now) out.new }
-    ensures short { length (name_text role name.now) ≤ 20 }
+    ensures short { length (name_text role name.now) ≤ 15 }
 {
     if !role.has_name() {
         return;
@@ -89,9 +99,9 @@ fn put_number_field<S: Sink>(out: &mut S, most: Option<u32>, n: u32)
 
 // One line.
 fn put_line<S: Sink>(out: &mut S, entry: &Entry)
-    requires { S.room out.old (length (write_line plain entry.now)) }
+    requires { S.room out.old (min (length (write_line plain entry.now)) 32) }
     ensures put { S.grown out.old (write_line plain entry.now) out.new }
-    ensures short { length (write_line plain entry.now) ≤ 64 }
+    ensures short { length (write_line plain entry.now) ≤ 32 }
 {
     let row = entry.node.kind.row();
     out.put(row.word.as_bytes());
@@ -112,9 +122,9 @@ fn text_length(entries: &[Entry]) -> usize
 
 // All lines.
 fn put_lines<S: Sink>(out: &mut S, entries: &[Entry])
-    requires { S.room out.old (length (write_lines plain entries.now)) }
+    requires { S.room out.old (min (length (write_lines plain entries.now)) (32 * length entries.now)) }
     ensures put { S.grown out.old (write_lines plain entries.now) out.new }
-    ensures short { length (write_lines plain entries.now) ≤ 64 * length entries.now }
+    ensures short { length (write_lines plain entries.now) ≤ 32 * length entries.now }
 {
     for entry in entries {
         put_line(out, entry);
@@ -132,14 +142,17 @@ pub fn write(program: &[Entry], buffer: &mut [u8]) -> Result<usize, TextFault>
     if program.len() > MOST_NODES {
         return Err(TextFault::Read(ReadFault::TooManyNodes));
     }
-    let needed = text_length(program);
-    if needed > buffer.len() {
-        return Err(TextFault::TooShort(needed));
+    // with room for the longest lines there is room for these, and they need not be counted first
+    if buffer.len() < program.len() * LONGEST_LINE {
+        let needed = text_length(program);
+        if needed > buffer.len() {
+            return Err(TextFault::TooShort(needed));
+        }
     }
     let mut page = Page {
         bytes: buffer,
         end: 0,
     };
     put_lines(&mut page, program);
-    Ok(needed)
+    Ok(page.end)
 }
