@@ -6,7 +6,7 @@ use std::fs::File;
 use std::io::Read;
 use std::{fmt, io};
 
-// One byte more than a text may have tells that a file is too long.
+// One byte more than a text may have tells that a file is too long. By `as`, since a constant calls no `From`.
 const ENOUGH: u64 = LONGEST_TEXT as u64 + 1;
 
 fn first_bytes(rt: &HostRuntime, file: &str) -> io::Result<Vec<u8>> {
@@ -30,16 +30,21 @@ pub fn read_file(rt: &HostRuntime, file: &str) -> anyhow::Result<Vec<u8>> {
 #[derive(Clone, Copy)]
 pub struct Shown<'a> {
     pub bytes: &'a [u8],
-    pub tab: char,
+    pub tab: &'static str,
+}
+
+fn is_printed(b: u8) -> bool {
+    matches!(b, 32..=126)
 }
 
 impl fmt::Display for Shown<'_> {
     fn fmt<W: fmt::Write>(&self, f: &mut fmt::Formatter<W>) -> fmt::Result {
-        for b in self.bytes {
-            match *b {
-                b'\t' => f.write_char(self.tab)?,
-                32..=126 => f.write_char(char::from(*b))?,
-                other => write!(f, "\\x{other:02x}")?,
+        // printed characters go out together, as each write by itself costs more than a byte
+        for piece in self.bytes.chunk_by(|a, b| is_printed(*a) && is_printed(*b)) {
+            match piece {
+                [b'\t'] => f.write_str(self.tab)?,
+                [other] if !is_printed(*other) => write!(f, "\\x{other:02x}")?,
+                printed => f.write_str(str::from_utf8(printed).unwrap_or_default())?,
             }
         }
         Ok(())

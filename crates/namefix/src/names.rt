@@ -22,7 +22,7 @@ fn print_name(
         Some(declaration) => {
             let there = Shown {
                 bytes: line(text, declaration),
-                tab: ' ',
+                tab: " ",
             };
             println!(rt; "-> {declaration:<4}  {there}")?;
         }

@@ -130,7 +130,7 @@ pub fn print(rt: &HostRuntime, call: &str, text: &[u8], refusal: Refusal) -> any
     if let Some(at) = spoken_of {
         let there = Shown {
             bytes: line(text, at),
-            tab: '\t',
+            tab: "\t",
         };
         println!(rt; "line {at}: {there}")?;
     }
