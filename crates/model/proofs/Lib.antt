@@ -1,2 +1,3 @@
 pub mod KindTables
 pub mod TableRows
+pub mod Searches

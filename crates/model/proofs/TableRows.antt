@@ -7,11 +7,12 @@ use Rattle.std.proofs.lemmas.List.{get_or-map, drop_more}
 use Rattle.std.proofs.lemmas.Bool.{cond-true, cond-false, and_parts, leb-true, false_from_ne_true}
 use Rattle.model.specs.declared.kinds.Kind.{Kind}
 use Rattle.model.specs.declared.kinds.Kind.TheVariants.{Card}
+use Rattle.model.specs.declared.kinds.Children.{Children as CodeChildren}
 use Rattle.model.specs.declared.kinds.KindRow.{KindRow}
 use Rattle.model.specs.Lists.{first_with, between}
-use Rattle.model.specs.Kinds.{row, kinds, kind_number}
+use Rattle.model.specs.Kinds.{Children, row, kinds, kind_number, sorts_below, child_sorts}
 use Rattle.model.specs.Fields.{kind_of}
-use Rattle.model.specs.Table.{RowOf, shown, row_of, table}
+use Rattle.model.specs.Table.{RowOf, shown, shown_children, row_of, table}
 use Rattle.model.proofs.KindTables.{kind_back, every_kind}
 
 table_long : length table ≡ 25
@@ -65,3 +66,11 @@ pub row_differs : (xs : List KindRow) (i : ℕ) (d : KindRow) (w : List ℕ) →
 row_differs xs i d w e b s =
     let q : (get_or xs i d).word.now ≡ (row (get_or kinds i Card)).word = ap (λ (t : RowOf). t.row.word) (at_place xs i d e b) in
     sym (found_later w i b (false_from_ne_true (bytes_eq w (row (get_or kinds i Card)).word) (λ h. s (q ∙ sym ((bytes_eq-Decides w (row (get_or kinds i Card)).word).0 h)))))
+
+-- What a shown row says of its kind's children
+
+pub children_are : (x : KindRow) (k : Kind) (cs : CodeChildren) → shown x ≡ row_of k → x.children ≡ cs → shown_children cs ≡ (row k).children
+children_are x k cs e h = ap shown_children (sym h) ∙ ap (λ (t : RowOf). t.row.children) e
+
+pub sorts_are : (x : KindRow) (k : Kind) (n : ℕ) (cs : CodeChildren) → shown x ≡ row_of k → x.children ≡ cs → sorts_below (shown_children cs) n ≡ child_sorts k n
+sorts_are x k n cs e h = ap (λ (c : Children). sorts_below c n) (children_are x k cs e h)
