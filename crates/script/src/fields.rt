@@ -31,7 +31,7 @@ fn is_decimal(field: &[u8]) -> bool
     all_digits(field) && (field[0] != b'0' || field.len() == 1)
 }
 
-// The number that digits write, where it is at most `most`.
+// The number that digits write, where it is at most `most`. By hand: the library parses text, and these are bytes.
 fn value_of(digits: &[u8], most: u32) -> Option<u32>
     requires { all_ascii_digits digits.now ≡ true }
     ensures { result ≡ at_most most (value_from 0 digits.now) }
