@@ -1,9 +1,10 @@
 -- Counting nodes of a kind, and the lines of a text by their numbers, in the words of the library.
-use Rattle.std.proofs.Common.{◌≡◌, ℕ, zero, suc, Bool, true, false, cond, eqb, List, [], ◌∷◌, get_or, filter, Some, None, Option, refl, ap, ◌∙◌}
+use Rattle.std.proofs.Common.{◌≡◌, ℕ, zero, suc, Bool, true, false, cond, eqb, List, [], ◌∷◌, get_or, length, filter, Some, None, Option, refl, sym, ap, ◌∙◌}
 use denote.Ref.{Bor}
 use Rattle.std.specs.Prelude.{slice_get}
 use Rattle.std.specs.Option.{option_map, unwrap_or}
-use Rattle.std.specs.List.{slice_split, onto_first}
+use Rattle.std.specs.List.{count_by, slice_split, onto_first}
+use Rattle.std.proofs.lemmas.List.Sums.{length-filter}
 use Rattle.std.proofs.lemmas.Option.{unwrap_or-slice_get}
 use Rattle.model.specs.Lists.{keep}
 use Rattle.model.specs.Reading.{TextLine, longer, lines}
@@ -16,6 +17,9 @@ kept t (x ∷ xs) = go (t x) (kept t xs)
     go : (b : Bool) → filter t xs ≡ keep t xs → cond b (x ∷ filter t xs) (filter t xs) ≡ cond b (x ∷ keep t xs) (keep t xs)
     go true e = ap (λ l. x ∷ l) e
     go false e = e
+
+pub kept_count : {A : Type 0} (t : A → Bool) (xs : List A) → count_by t xs ≡ length (keep t xs)
+kept_count t xs = sym (length-filter t xs) ∙ ap length (kept t xs)
 
 abbrev pub ends : ℕ → Bool
 ends b = eqb b 10

@@ -12,8 +12,8 @@ pub fn count_kind(program: &[Entry], kind: Kind) -> usize
 {
     program
         .iter()
-        .filter(|entry| kind == entry.node.kind)
-        .count()
+        .map(|entry| usize::from(kind == entry.node.kind))
+        .sum()
 }
 
 // The bytes of a line, without its end; none past the last line.
