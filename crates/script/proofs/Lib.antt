@@ -6,5 +6,6 @@ mod Stacks
 mod ReadParts
 mod Readings
 mod Summing
+pub mod Numbered
 mod Sinks
 mod Places
