@@ -6,6 +6,5 @@ mod Stacks
 mod ReadParts
 mod Readings
 mod Summing
-pub mod Numbered
 mod Sinks
 mod Places

@@ -28,7 +28,8 @@ fn characters(stem: &[u8]) -> &[u8]
     }
 }
 
-// What a call asks room for is its own text, so each says it; a type could not.
+// What a call asks room for is its own text, so each says it; a type could not. Behind a reference
+// it is not known how long the text can be, so there as much room as for the longest is enough too.
 // The digits are found from the last on, and put at once; by hand, as the library prints to a formatter that may fail.
 // `as` is proved to lose nothing here; `try_from` would have an error that cannot be.
 fn put_number<S: Sink>(out: &mut S, n: u32)
@@ -61,8 +62,6 @@ fn put_mark<S: Sink>(out: &mut S, mark: u16)
     put_number(out, u32::from(mark));
 }
 
-// Behind a reference it is not known how long a text can be, so for a name, its field and lines as much room as
-// the longest need is enough too.
 fn put_name<S: Sink>(out: &mut S, name: &Name)
     requires { S.room out.old (min (length (write_name name.now)) 14) }
     ensures put { S.grown out.old (write_name name.now) out.new }
